@@ -1,0 +1,37 @@
+-- The figures of a group's shares, and its limits. Assumes nothing.
+use Prim.Native.Nat.{ℕ, _+_, _-_, _*_}
+use mathlib.Core.Bool.{Bool, true, _&&_}
+use mathlib.Core.List.{List}
+use lib.Dec.{leb}
+use Rattle.model.specs.Shares.{sumOf}
+use Rattle.model.specs.declared.Limit.{Limit}
+use Rattle.model.specs.declared.Limit.the-variants.{Any, AtMost}
+use Rattle.model.specs.declared.Limits.{Limits}
+
+-- |a − b|
+abbrev pub apart : ℕ → ℕ → ℕ
+apart a b = (a - b) + (b - a)
+
+-- 01: deviation = sum of |n × share − S|
+unfoldable pub deviation : ℕ → ℕ → List ℕ → ℕ
+deviation n total xs = sumOf (λ x. apart (n * x) total) xs
+
+-- 01: spread = n × (sum of squared shares) − S × S
+unfoldable pub spread : ℕ → ℕ → List ℕ → ℕ
+spread n total xs = n * sumOf (λ x. x * x) xs - total * total
+
+-- 01: the total above t is the sum of share − t over the members whose share is above t
+unfoldable pub above : ℕ → List ℕ → ℕ
+above t xs = sumOf (λ x. x - t) xs
+
+-- 01: "any limits nothing"
+abbrev pub allows : Limit → ℕ → Bool
+allows Any figure = true
+allows (AtMost most) figure = leb figure most
+
+abbrev pub met : Limits → ℕ → ℕ → Bool
+met limits d s = allows (limits .deviation) d && allows (limits .spread) s
+
+-- 01: both figures within the limits
+abbrev pub meets : Limits → ℕ → ℕ → List ℕ → Bool
+meets limits n total xs = met limits (deviation n total xs) (spread n total xs)

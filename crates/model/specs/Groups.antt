@@ -1,0 +1,10 @@
+-- A group of a job. Assumes nothing.
+use Prim.Native.Nat.{ℕ}
+use mathlib.Core.List.{List}
+use Rattle.model.specs.declared.Limits.{Limits}
+
+-- 01: a group names its units, a total and two limits; a member is the unit's number less 1
+pub record Group : Type 0 where
+  pub total : ℕ
+  pub limits : Limits
+  pub members : List ℕ

@@ -1,0 +1,94 @@
+-- The known shares of 01 for one group: one list of cases, and one check that computes over it. Assumes nothing.
+use Prim.Native.Nat.{ℕ}
+use mathlib.Core.Bool.{Bool, true, false, _&&_}
+use mathlib.Core.List.{List, [], _∷_}
+use mathlib.Core.Path.{_≡_, refl}
+use lib.Dec.{eqb}
+use lib.ListN.{length, replicate}
+use Rattle.model.specs.Shares.{sum, sumOf}
+use Rattle.model.specs.Figures.{deviation, spread}
+use Rattle.model.specs.Levels.{clamped, totalAt, levelBelow, level, topped, remainder, levelled}
+use Rattle.model.specs.Plans.{hasPlan, turnOf, firstUp, firstDown, narrowedLow, narrowedHigh, tabulate, narrowedLows, narrowedHighs}
+use Rattle.model.specs.declared.Limit.{Limit}
+use Rattle.model.specs.declared.Limit.the-variants.{Any, AtMost}
+use Rattle.model.specs.declared.Limits.{Limits}
+use Rattle.model.specs.declared.Turn.{Turn}
+use Rattle.model.specs.declared.Turn.the-variants.{Narrowed, NoPlan}
+
+-- the ranges and the total of a known group
+pub record Shared : Type 0 where
+  pub lows : List ℕ
+  pub highs : List ℕ
+  pub total : ℕ
+
+-- what 01 says of it
+pub data Known : Type 0 where
+  shares : Shared → List ℕ → ℕ → ℕ → Known
+  levels : Shared → ℕ → Known
+  ranges : Shared → Limit → Limit → List ℕ → List ℕ → Known
+  refuses : Shared → Limit → Limit → ℕ → Known
+
+unfoldable pub sameList : List ℕ → List ℕ → Bool
+sameList [] [] = true
+sameList [] (y ∷ ys) = false
+sameList (x ∷ xs) [] = false
+sameList (x ∷ xs) (y ∷ ys) = eqb x y && sameList xs ys
+
+-- the number that a turn refuses with, 0 where it narrows
+abbrev pub refusedBy : Turn → ℕ
+refusedBy Narrowed = 0
+refusedBy (NoPlan number) = number
+
+abbrev pub limitsOf : Limit → Limit → Limits
+limitsOf d s = record { deviation = d; spread = s }
+
+unfoldable pub holds : Known → Bool
+holds (shares g xs d s) =
+    let found : List ℕ = levelled (g .lows) (g .highs) (g .total) in
+    let n : ℕ = length (g .lows) in
+    sameList found xs && (eqb (deviation n (g .total) found) d && eqb (spread n (g .total) found) s)
+holds (levels g v) = eqb (level (g .lows) (g .highs) (g .total)) v
+holds (ranges g d s lows highs) =
+    sameList (narrowedLows (g .lows) (g .highs) (g .total) (limitsOf d s)) lows
+    && sameList (narrowedHighs (g .lows) (g .highs) (g .total) (limitsOf d s)) highs
+holds (refuses g d s number) = eqb (refusedBy (turnOf (g .lows) (g .highs) (g .total) (limitsOf d s))) number
+
+unfoldable pub all : List Known → Bool
+all [] = true
+all (k ∷ ks) = holds k && all ks
+
+-- 001, example 1
+unfoldable pub first : Shared
+first = record { lows = 8 ∷ 4 ∷ 1 ∷ 3 ∷ []; highs = 10 ∷ 7 ∷ 5 ∷ 4 ∷ []; total = 20 }
+
+-- 001, example 5
+unfoldable pub ten : Shared
+ten = record { lows = replicate 10 0; highs = replicate 10 1; total = 5 }
+
+-- 002's example
+unfoldable pub three : ℕ → Shared
+three total = record { lows = 1 ∷ 2 ∷ 3 ∷ []; highs = 3 ∷ 6 ∷ 9 ∷ []; total = total }
+
+unfoldable pub known : List Known
+known =
+    shares first (8 ∷ 4 ∷ 4 ∷ 4 ∷ []) 24 48
+    ∷ ranges first (AtMost 28) Any (8 ∷ 4 ∷ 3 ∷ 3 ∷ []) (8 ∷ 5 ∷ 5 ∷ 4 ∷ [])
+    ∷ ranges first Any (AtMost 56) (8 ∷ 4 ∷ 3 ∷ 3 ∷ []) (8 ∷ 5 ∷ 5 ∷ 4 ∷ [])
+    ∷ ranges first Any (AtMost 55) (8 ∷ 4 ∷ 4 ∷ 4 ∷ []) (8 ∷ 4 ∷ 4 ∷ 4 ∷ [])
+    ∷ refuses first Any (AtMost 47) 12
+    ∷ shares ten (1 ∷ 1 ∷ 1 ∷ 1 ∷ 1 ∷ 0 ∷ 0 ∷ 0 ∷ 0 ∷ 0 ∷ []) 50 25
+    ∷ refuses ten (AtMost 30) Any 12
+    ∷ refuses ten (AtMost 50) Any 0
+    ∷ shares (three 10) (3 ∷ 4 ∷ 3 ∷ []) 4 2
+    ∷ shares (three 9) (3 ∷ 3 ∷ 3 ∷ []) 0 0
+    ∷ shares (three 6) (1 ∷ 2 ∷ 3 ∷ []) 6 6
+    ∷ shares (three 18) (3 ∷ 6 ∷ 9 ∷ []) 18 54
+    ∷ levels (three 18) 1_000_000
+    ∷ refuses (three 5) Any Any 11
+    ∷ refuses (three 19) Any Any 11
+    ∷ []
+
+-- every known share holds of the definitions
+pub known-shares : all known ≡ true
+unfolding all holds known first ten three sameList sum sumOf deviation spread clamped totalAt levelBelow level topped remainder levelled hasPlan turnOf firstUp firstDown narrowedLow narrowedHigh tabulate narrowedLows narrowedHighs
+known-shares = refl

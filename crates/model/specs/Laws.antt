@@ -1,0 +1,2 @@
+-- The laws of one group, a file for each topic.
+pub mod Even
