@@ -1,2 +1,3 @@
 -- The laws of one group, a file for each topic.
 pub mod Even
+pub mod Spread
