@@ -2,3 +2,5 @@
 pub mod Lists
 pub mod Even
 pub mod Level
+pub mod Spread
+pub mod Deviation
