@@ -4,3 +4,4 @@ pub mod Even
 pub mod Level
 pub mod Spread
 pub mod Deviation
+pub mod Walk

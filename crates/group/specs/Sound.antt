@@ -1,0 +1,44 @@
+-- The lists that the inner functions ask for, and how large their sums are. Assumes nothing.
+use Prim.Native.Nat.{ℕ, _*_, _≤_}
+use mathlib.Core.List.{List}
+use mathlib.Core.Path.{_≡_}
+use native.Mathlib.Omega.{arith}
+use lib.ListN.{length}
+use Rattle.model.specs.Shares.{Ranges, greatestShare, sum}
+use Rattle.model.specs.Levels.{totalAt, clamped}
+use Rattle.model.specs.Laws.Lists.{ranges-length}
+use Rattle.model.specs.Laws.Level.{totalAt-cons, totalAt-least, totalAt-greatest, clamp-at-most}
+
+-- 01: a group names at most 256 units; one of no units is allowed here
+abbrev pub greatestCount : ℕ
+greatestCount = 256
+
+-- 01: "a total S (0 to 256,000,000)"
+abbrev pub greatestTotal : ℕ
+greatestTotal = 256_000_000
+
+-- ranges of at most 256 members
+pub record Sound (lows highs : List ℕ) : Type 0 where
+  pub ranges : Ranges lows highs
+  pub paired : length highs ≡ length lows
+  pub few : length lows ≤ greatestCount
+
+pub sound : {lows highs : List ℕ} → Ranges lows highs → length lows ≤ greatestCount → Sound lows highs
+sound ranges few = record { ranges = ranges; paired = ranges-length ranges; few = few }
+
+-- T(v) is at most n times the greatest share
+totalAt-bound : {lows highs : List ℕ} → Ranges lows highs → (v : ℕ) → totalAt lows highs v ≤ length lows * greatestShare
+totalAt-bound Ranges.none v = unfold totalAt clamped sum in omega arith
+totalAt-bound (Ranges.also {l} {h} {ls} {hs} p q r) v =
+    rw (totalAt-cons l h ls hs v) (omega (arith, clamp-at-most l h v p, totalAt-bound r v))
+
+-- T(v), the sum of the lows and the sum of the highs are totals
+module _ {lows highs : List ℕ} (sound : Sound lows highs) where
+  pub totalAt-small : (v : ℕ) → totalAt lows highs v ≤ greatestTotal
+  totalAt-small v = omega (arith, totalAt-bound (sound .ranges) v)
+
+  pub lows-small : sum lows ≤ greatestTotal
+  lows-small = rw (← totalAt-least (sound .ranges)) (totalAt-small 0)
+
+  pub highs-small : sum highs ≤ greatestTotal
+  highs-small = rw (← totalAt-greatest (sound .ranges)) (totalAt-small greatestShare)

@@ -1,0 +1,2 @@
+// Levelling and narrowing one group on lists.
+pub mod shares;
