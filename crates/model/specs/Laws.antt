@@ -5,3 +5,4 @@ pub mod Level
 pub mod Spread
 pub mod Deviation
 pub mod Walk
+pub mod Levelled

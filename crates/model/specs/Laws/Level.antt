@@ -100,6 +100,12 @@ level-greatest lows highs total w q h =
     λ s v top a p. (by-contra _ _ (λ c. omega (arith, totalAt-mono lows highs ((v + top) / 2) w (omega arith))), omega arith) in
     omega (arith, (at-level lows highs total below (λ s v top a p. omega arith) down (omega arith)) .1)
 
+-- one above the level, T is above the total
+pub level-next : (lows highs : List ℕ) (total : ℕ) → level lows highs total < greatestShare
+    → total < totalAt lows highs (suc (level lows highs total))
+level-next lows highs total p =
+    by-contra _ _ (λ c. omega (arith, level-greatest lows highs total (suc (level lows highs total)) p (omega arith)))
+
 -- the level is the one share with T at most the total and above it at the next
 pub level-unique : (lows highs : List ℕ) (total v : ℕ) → v ≤ greatestShare → totalAt lows highs v ≤ total
     → (v < greatestShare → total < totalAt lows highs (suc v)) → v ≡ level lows highs total
