@@ -6,3 +6,4 @@ pub mod Spread
 pub mod Deviation
 pub mod Walk
 pub mod Levelled
+pub mod Transfer
