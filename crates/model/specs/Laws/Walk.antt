@@ -1,11 +1,12 @@
 -- One step of a walk over the members: the sums and shares from member i on, by member i and those after it. Assumes nothing.
-use Prim.Native.Nat.{ℕ, suc, _+_, _-_, _<_, min}
+use Prim.Native.Nat.{ℕ, suc, _+_, _-_, _≤_, _<_, min}
 use mathlib.Core.List.{List, _∷_}
 use mathlib.Core.Path.{_≡_, refl}
 use native.Mathlib.Numerals.{add-one}
-use lib.ListN.{length, getD, drop}
+use native.Mathlib.Omega.{arith}
+use lib.ListN.{length, getD, drop, drop-of-length-le}
 use lib.Seq.{drop-cons}
-use Rattle.model.specs.Shares.{sum}
+use Rattle.model.specs.Shares.{sum, sumOf}
 use Rattle.model.specs.Levels.{clamp, growth, totalAt, topped}
 use Rattle.model.specs.Laws.Level.{totalAt-cons}
 
@@ -26,3 +27,23 @@ module _ (lows highs : List ℕ) (i : ℕ) (p : i < length lows) (q : i < length
       ∷ topped (drop (i + 1) lows) (drop (i + 1) highs) v (left - min left (growth (getD lows i 0) (getD highs i 0) v))
   unfolding topped
   topped-walk left = rw (add-one, drop-cons lows i 0 p, drop-cons highs i 0 q)
+
+-- the sum of f over the shares of the members before i is passed: with that over the shares of the others, rest copies still to
+-- hand out, it is the sum over all
+abbrev pub Passed : (ℕ → ℕ) → List ℕ → List ℕ → ℕ → ℕ → ℕ → ℕ → ℕ → Type 0
+Passed f lows highs v left rest i passed =
+    passed + sumOf f (topped (drop i lows) (drop i highs) v rest) ≡ sumOf f (topped lows highs v left)
+
+-- it grows by f of member i's share
+pub passed-step : (f : ℕ → ℕ) (lows highs : List ℕ) (i : ℕ) → i < length lows → i < length highs → (v left rest passed base more : ℕ)
+    → base ≡ clamp (getD lows i 0) (getD highs i 0) v → more ≡ min rest (growth (getD lows i 0) (getD highs i 0) v)
+    → Passed f lows highs v left rest i passed → Passed f lows highs v left (rest - more) (i + 1) (passed + f (base + more))
+unfolding sumOf
+passed-step f lows highs i p q v left rest passed base more is-clamp is-growth held =
+    rw (is-clamp, is-growth) (omega (arith, rw (topped-walk lows highs i p q v rest) at held))
+
+-- once all members are passed it is the sum over all
+pub passed-all : (f : ℕ → ℕ) (lows highs : List ℕ) (v left rest i passed : ℕ) → length lows ≤ i
+    → Passed f lows highs v left rest i passed → passed ≡ sumOf f (topped lows highs v left)
+unfolding sumOf topped
+passed-all f lows highs v left rest i passed h held = omega (arith, rw (drop-of-length-le lows h) at held)
