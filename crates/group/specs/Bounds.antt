@@ -15,8 +15,17 @@ use Rattle.model.specs.Laws.Spread.{sumOf-bound}
 use Rattle.group.specs.Sound.{Sound, greatestCount, greatestTotal, highs-small}
 
 -- a share with the copy that it takes is at most the range's high
-pub extra-at-most : (l h v left : ℕ) → l ≤ h → clamp l h v + min left (growth l h v) ≤ h
+extra-at-most : (l h v left : ℕ) → l ≤ h → clamp l h v + min left (growth l h v) ≤ h
 extra-at-most l h v left p = omega (arith, growth-step l h v p, clamp-at-most l h (suc v) p)
+
+-- member i's share with the copy that it takes is at most the greatest
+pub share-at-small : {lows highs : List ℕ} → Sound lows highs → (i v left base more : ℕ) → i < length lows
+    → base ≡ clamp (getD lows i 0) (getD highs i 0) v → more ≡ min left (growth (getD lows i 0) (getD highs i 0) v)
+    → base + more ≤ greatestShare
+share-at-small {lows} {highs} sound i v left base more h is-clamp is-growth =
+    let range = ranges-at (sound .ranges) i h in
+    let most = extra-at-most (getD lows i 0) (getD highs i 0) v left (range .0) in
+    omega arith
 
 module _ {lows highs xs : List ℕ} (sound : Sound lows highs) (within : Within lows highs xs) where
   -- shares in the ranges are at most the greatest

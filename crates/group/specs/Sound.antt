@@ -1,11 +1,15 @@
 -- The lists that the inner functions ask for, and how large their sums are. Assumes nothing.
-use Prim.Native.Nat.{ℕ, _*_, _≤_}
+use Prim.Native.Nat.{ℕ, _-_, _*_, _≤_}
+use mathlib.Core.Bool.{Bool, true, false, _&&_}
+use borrow.Author.Tests.{leb-true}
+use lib.Dec.{leb}
 use mathlib.Core.List.{List}
-use mathlib.Core.Path.{_≡_}
+use mathlib.Core.Path.{_≡_, refl}
 use native.Mathlib.Omega.{arith}
 use lib.ListN.{length}
 use Rattle.model.specs.Shares.{Ranges, greatestShare, sum}
-use Rattle.model.specs.Levels.{totalAt, clamped}
+use Rattle.model.specs.Levels.{totalAt, clamped, level, topped, remainder, levelled}
+use Rattle.model.specs.Plans.{hasShares}
 use Rattle.model.specs.Laws.Lists.{ranges-length}
 use Rattle.model.specs.Laws.Level.{totalAt-cons, totalAt-least, totalAt-greatest, clamp-at-most}
 
@@ -42,3 +46,24 @@ module _ {lows highs : List ℕ} (sound : Sound lows highs) where
 
   pub highs-small : sum highs ≤ greatestTotal
   highs-small = rw (← totalAt-greatest (sound .ranges)) (totalAt-small greatestShare)
+
+-- sound ranges with room for the total: shares that have it exist
+pub record HasShares (lows highs : List ℕ) (total : ℕ) : Type 0 where
+  pub sound : Sound lows highs
+  pub low : sum lows ≤ total
+  pub high : total ≤ sum highs
+
+both : (a b : Bool) → a && b ≡ true → (a ≡ true) × (b ≡ true)
+both true b held = (refl, held)
+both false b held = (held, cc)
+
+pub has-shares : {lows highs : List ℕ} → Sound lows highs → (total : ℕ) → hasShares lows highs total ≡ true → HasShares lows highs total
+has-shares {lows} {highs} s total exist =
+    let held = both (leb (sum lows) total) (leb total (sum highs)) exist in
+    record { sound = s; low = leb-true _ _ (held .0); high = leb-true _ _ (held .1) }
+
+-- the shares at the level, with the copies left over handed out, are the levelled shares
+pub levelled-is : (lows highs : List ℕ) (total v left : ℕ) → v ≡ level lows highs total → left ≡ remainder lows highs total
+    → topped lows highs v left ≡ levelled lows highs total
+unfolding levelled
+levelled-is lows highs total v left is-level is-remainder = rw (is-remainder, is-level)

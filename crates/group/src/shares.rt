@@ -1,10 +1,11 @@
 // The level of a group and its levelled shares, from the ranges alone.
 ghost use mathlib.Core.Path.{_≡_};
 ghost use Prim.Native.Nat.{_+_, _≤_, min, max};
-ghost use lib.ListN.{length};
+ghost use mathlib.Core.List.{_++_};
+ghost use lib.ListN.{length, drop};
 ghost use Rattle.model.specs.Shares.{sum};
-ghost use Rattle.model.specs.Levels.{clamp, growth, totalAt, level};
-ghost use Rattle.group.specs.Sound.{Sound, greatestTotal};
+ghost use Rattle.model.specs.Levels.{clamp, growth, totalAt, level, remainder, topped};
+ghost use Rattle.group.specs.Sound.{Sound, HasShares, greatestTotal};
 use model::Share;
 
 // The smaller of two numbers.
@@ -77,8 +78,7 @@ pub fn total_at(lows: &[u64], highs: &[u64], v: u64) -> u64
 
 // The level: the greatest share with T(v) at most the total, by bisection between v, which has it, and top, which has not.
 pub fn level_at(lows: &[u64], highs: &[u64], total: u64) -> u64
-    requires { ⌜ Sound (now lows) (now highs) ⌝ }
-    requires { ⌜ sum (now lows) ≤ total ⌝ }
+    requires { ⌜ HasShares (now lows) (now highs) total ⌝ }
     ensures { λ r. ⌜ r ≡ level (now (lows .entry)) (now (highs .entry)) total ⌝ }
 {
     let mut v: u64 = Share::LEAST;
@@ -92,4 +92,29 @@ pub fn level_at(lows: &[u64], highs: &[u64], total: u64) -> u64
         }
     }
     v
+}
+
+// The copies left over at the level.
+pub fn remainder_at(lows: &[u64], highs: &[u64], total: u64, v: u64) -> u64
+    requires { ⌜ HasShares (now lows) (now highs) total ⌝ }
+    requires { ⌜ v ≡ level (now lows) (now highs) total ⌝ }
+    ensures { λ r. ⌜ r ≡ remainder (now (lows .entry)) (now (highs .entry)) total ⌝ }
+{
+    total - total_at(lows, highs, v)
+}
+
+// Writes the shares at a level, with the copies left over handed out, over the first numbers of a plan.
+pub fn fill_plan(lows: &[u64], highs: &[u64], v: u64, left: u64, plan: &mut [u64])
+    requires { ⌜ Sound (now lows) (now highs) ⌝ }
+    requires { ⌜ length (now lows) ≤ length (now plan) ⌝ }
+    ensures { λ _. ⌜ now (plan .exit) ≡ topped (now (lows .entry)) (now (highs .entry)) v left ++ drop (length (now (lows .entry))) (now (plan .entry)) ⌝ }
+{
+    let mut rest = left;
+    let mut i: usize = 0;
+    while i < lows.len() {
+        let more = extra(lows[i], highs[i], v, rest);
+        plan[i] = clamp(lows[i], highs[i], v) + more;
+        rest -= more;
+        i += 1;
+    }
 }

@@ -5,16 +5,16 @@ use native.Mathlib.Nat.{mul-le-mul}
 use mathlib.Core.List.{List}
 use mathlib.Core.Path.{_≡_}
 use Prim.Native.Nat.{ℕ, _+_, _-_, _*_, _≤_}
-use lib.ListN.{length, getD}
+use lib.ListN.{length}
 use Rattle.model.specs.Laws.Levelled.{topped-within}
 use Rattle.model.specs.Laws.Spread.{cauchy-schwarz}
 use Rattle.model.specs.Shares.{Within, greatestShare, sumOf}
 use Rattle.model.specs.Figures.{apart, deviation, spread}
 use Rattle.model.specs.Levels.{topped}
 use Rattle.model.specs.Laws.Walk.{Passed, passed-step, passed-all}
-use Rattle.model.specs.Laws.Lists.{ranges-at, within-length}
+use Rattle.model.specs.Laws.Lists.{within-length}
 use Rattle.group.specs.Sound.{greatestCount, greatestTotal}
-use Rattle.group.specs.Bounds.{extra-at-most, sum-small, squares-small, deviation-small}
+use Rattle.group.specs.Bounds.{share-at-small, sum-small, squares-small, deviation-small}
 use Rattle.group.proofs.plans.figures_at.Statement.{statement}
 use Rattle.group.proofs.plans.figures_at.Tie as tie
 
@@ -94,9 +94,8 @@ module _ (c : tie.After-clamp Inv-loop μ-loop) where
   -- the member's share is at most the greatest
   share-bound : share ≤ greatestShare
   share-bound =
-      let range = ranges-at (start .pre .0 .ranges) (turn .loop .i) (omega arith) in
-      let most = extra-at-most (getD lows (turn .loop .i) 0) (getD highs (turn .loop .i) 0) (start .args .v) (turn .loop .rest) (range .0) in
-      omega arith
+      share-at-small (start .pre .0) (turn .loop .i) (start .args .v) (turn .loop .rest) (c .clamp .result) more (omega arith)
+      (c .clamp .ensures) (c .before .before .before .extra .ensures)
 
   -- one member more is passed, whatever is added up
   step : (f : ℕ → ℕ) (passed : ℕ) → Passed f lows highs (start .args .v) (start .args .left) (turn .loop .rest) (turn .loop .i) passed

@@ -30,7 +30,7 @@ loop-holds : tie.Need-loop-holds Inv-loop μ-loop
 loop-holds c = record {
   apart = omega arith;
   share = omega arith;
-  holds = rw (totalAt-least (c .before .before .pre .0 .ranges)) (search needs);
+  holds = rw (totalAt-least (c .before .before .pre .sound .ranges)) (search needs);
   fails = λ h. absurd (omega arith);
 }
 
