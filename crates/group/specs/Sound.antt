@@ -53,7 +53,8 @@ pub record HasShares (lows highs : List ℕ) (total : ℕ) : Type 0 where
   pub low : sum lows ≤ total
   pub high : total ≤ sum highs
 
-both : (a b : Bool) → a && b ≡ true → (a ≡ true) × (b ≡ true)
+-- two tests hold where both do
+pub both : (a b : Bool) → a && b ≡ true → (a ≡ true) × (b ≡ true)
 both true b held = (refl, held)
 both false b held = (held, cc)
 
