@@ -1,9 +1,15 @@
 -- What levelling one group on lists answers, and the plan list after it. Assumes nothing.
-use Prim.Native.Nat.{ℕ}
+use Prim.Native.Nat.{ℕ, _≤_}
+use mathlib.Core.Bool.{true}
+use mathlib.Core.Path.{_≡_}
+use borrow.Author.Tests.{le-leb}
 use mathlib.Core.List.{List, _++_}
 use lib.Dec.{leb}
 use lib.ListN.{length, drop}
-use Rattle.model.specs.Shares.{pick}
+use Rattle.model.specs.Shares.{pick, greatestShare, checked}
+use Rattle.model.specs.declared.Share.{Share}
+use Rattle.model.specs.declared.Checked.{Checked}
+use Rattle.model.specs.declared.Checked.the-variants.{Valid}
 use Rattle.model.specs.Figures.{deviation, spread}
 use Rattle.model.specs.Levels.{level, levelled}
 use Rattle.model.specs.Plans.{hasShares}
@@ -11,6 +17,8 @@ use Rattle.group.specs.Sound.{greatestTotal}
 use Rattle.group.specs.Checks.{checkLists}
 use Rattle.group.specs.declared.Check.{Check}
 use Rattle.group.specs.declared.Check.the-variants.{Passed, Failed}
+use Rattle.group.specs.Figures.{figuresOf}
+use Rattle.group.specs.declared.Figures.{Figures}
 use Rattle.group.specs.declared.Levelling.{Levelling}
 use Rattle.group.specs.declared.Levelling.the-variants.{Levelled, Refused}
 
@@ -36,3 +44,17 @@ levelling lows highs total room = afterCheck (checkLists lows highs room (leb to
 abbrev pub planAfter : Levelling → List ℕ → List ℕ → List ℕ
 planAfter (Levelled v d s) shares plan = shares ++ drop (length shares) plan
 planAfter (Refused refusal) shares plan = plan
+
+-- a level is a share: its check finds it valid
+pub valid-share : (v : ℕ) (answer : Checked) → v ≤ greatestShare → answer ≡ checked v → answer ≡ Valid (record { copies = v })
+valid-share v answer small is-checked = rw (is-checked, le-leb _ _ small)
+
+-- the answer where shares exist
+pub levelled-answer : (lows highs : List ℕ) (total v : ℕ) (answer : Checked) (share : Share) (figures : Figures)
+    → hasShares lows highs total ≡ true → v ≡ level lows highs total → answer ≡ Valid (record { copies = v }) → answer ≡ Valid share
+    → figures ≡ figuresOf (length lows) total (levelled lows highs total)
+    → Levelled share (figures .deviation) (figures .spread) ≡ levelledTo lows highs total
+unfolding levelledTo
+levelled-answer lows highs total v answer share figures exist is-level valid is-valid is-figures =
+    let is-share : share ≡ record { copies = v } = cc in
+    rw (exist, is-share, is-level, is-figures)

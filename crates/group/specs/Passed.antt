@@ -1,18 +1,21 @@
 -- The first unit that fails a test, step by step; lists that pass the checks are sound. Assumes nothing.
 use Prim.Native.Nat.{ℕ, zero, suc, _+_, _≤_, _<_}
-use mathlib.Core.Bool.{Bool, true, false}
+use mathlib.Core.Bool.{Bool, true, false, not}
 use mathlib.Core.List.{List, [], _∷_}
-use mathlib.Core.Path.{_≡_, refl}
+use mathlib.Core.Path.{_≡_, refl, sym}
 use native.Mathlib.Nat.{suc-inj, le-of-suc-le-suc}
 use native.Mathlib.Numerals.{add-one}
 use native.Mathlib.Omega.{arith}
 use lib.ListN.{length, getD, drop, drop-of-length-le}
 use lib.Seq.{drop-cons}
-use Rattle.model.specs.Shares.{pick}
-use Rattle.group.specs.Checks.{firstFailing, sized}
-use Rattle.group.specs.Sound.{greatestCount, both}
-use borrow.Author.Tests.{leb-true, eqb-true}
-use lib.Dec.{leb, eqb}
+use Rattle.model.specs.Shares.{pick, greatestShare}
+use Rattle.group.specs.Checks.{firstFailing, areShares, firstBeyond, firstCrossed, sized, refuseIf, checkLists}
+use Rattle.group.specs.Sound.{Sound, greatestCount, sound, both}
+use Rattle.group.specs.declared.Check.{Check}
+use Rattle.group.specs.declared.Check.the-variants.{Passed}
+use Rattle.model.specs.Laws.Lists.{ranges-of}
+use borrow.Author.Tests.{leb-true, ltb-false, eqb-true, not-false}
+use lib.Dec.{leb, ltb, eqb}
 
 picked : (b : Bool) (n place : ℕ) → pick b n (suc place) ≡ 0 → (b ≡ true) × (n ≡ 0)
 picked true n place e = (refl, e)
@@ -68,3 +71,26 @@ sized-of count other room held =
       few = leb-true _ _ (third .0);
       fits = leb-true _ _ (third .1);
     }
+
+refuse-passed : (b : Bool) (number place : ℕ) (next : Check) → refuseIf b number place next ≡ Passed → (b ≡ false) × (next ≡ Passed)
+refuse-passed true number place next e = (cc, cc)
+refuse-passed false number place next e = (refl, e)
+
+-- lists that pass the checks are sound, with room for the shares
+pub passed-sound : (lows highs : List ℕ) (room : ℕ) (amounts : Bool) → checkLists lows highs room amounts ≡ Passed
+    → Sound lows highs × (length lows ≤ room)
+unfolding checkLists
+passed-sound lows highs room amounts held =
+    let first = refuse-passed _ _ _ _ held in
+    let second = refuse-passed (ltb 0 (firstBeyond lows highs)) _ _ _ (first .1) in
+    let third = refuse-passed (not amounts) _ _ _ (second .1) in
+    let fourth = refuse-passed (ltb 0 (firstCrossed lows highs)) _ _ _ (third .1) in
+    let lengths = sized-of (length lows) (length highs) room (not-false _ (first .0)) in
+    let beyond : firstBeyond lows highs ≡ 0 = omega (arith, ltb-false 0 (firstBeyond lows highs) (second .0)) in
+    let crossed : firstCrossed lows highs ≡ 0 = omega (arith, ltb-false 0 (firstCrossed lows highs) (fourth .0)) in (
+      sound
+          (ranges-of lows highs (sym (lengths .paired))
+          (λ i h. (leb-true _ _ (first-none leb 0 lows highs (sym (lengths .paired)) crossed i h), leb-true _ _ (both (leb (getD lows i 0) greatestShare) _ (first-none areShares 0 lows highs (sym (lengths .paired)) beyond i h) .1))))
+          (lengths .few),
+      lengths .fits,
+    )

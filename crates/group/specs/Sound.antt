@@ -4,13 +4,14 @@ use mathlib.Core.Bool.{Bool, true, false, _&&_}
 use borrow.Author.Tests.{leb-true}
 use lib.Dec.{leb}
 use mathlib.Core.List.{List}
-use mathlib.Core.Path.{_≡_, refl}
+use mathlib.Core.Path.{_≡_, refl, sym}
 use native.Mathlib.Omega.{arith}
 use lib.ListN.{length}
 use Rattle.model.specs.Shares.{Ranges, greatestShare, sum}
 use Rattle.model.specs.Levels.{totalAt, clamped, level, topped, remainder, levelled}
 use Rattle.model.specs.Plans.{hasShares}
-use Rattle.model.specs.Laws.Lists.{ranges-length}
+use Rattle.model.specs.Laws.Lists.{ranges-length, within-length}
+use Rattle.model.specs.Laws.Levelled.{levelled-adds, levelled-within}
 use Rattle.model.specs.Laws.Level.{totalAt-cons, totalAt-least, totalAt-greatest, clamp-at-most}
 
 -- 01: a group names at most 256 units; one of no units is allowed here
@@ -68,3 +69,14 @@ pub levelled-is : (lows highs : List ℕ) (total v left : ℕ) → v ≡ level l
     → topped lows highs v left ≡ levelled lows highs total
 unfolding levelled
 levelled-is lows highs total v left is-level is-remainder = rw (is-remainder, is-level)
+
+-- and they add up to the total
+pub levelled-total : {lows highs : List ℕ} {total : ℕ} → HasShares lows highs total → (v left : ℕ)
+    → v ≡ level lows highs total → left ≡ remainder lows highs total → sum (topped lows highs v left) ≡ total
+levelled-total {lows} {highs} {total} shared v left is-level is-remainder =
+    rw (levelled-is lows highs total v left is-level is-remainder)
+    (levelled-adds (shared .sound .ranges) total (shared .low) (shared .high))
+
+-- there is one to each member
+pub levelled-length : {lows highs : List ℕ} → Sound lows highs → (total : ℕ) → length (levelled lows highs total) ≡ length lows
+levelled-length s total = sym (within-length (levelled-within (s .ranges) total) .0)

@@ -10,8 +10,6 @@ use Rattle.group.specs.Checks.{firstFailing, areShares}
 use Rattle.group.specs.Passed.{NoneBefore, first-here, first-after, first-nowhere}
 use Rattle.group.proofs.checks.first_beyond.Statement.{statement}
 use Rattle.group.proofs.checks.first_beyond.Tie as tie
-use Rattle.group.proofs.checks.first_beyond.Reads as reads
-use Rattle.group.proofs.checks.first_beyond.Lts as lts
 
 abbrev Inv-loop : tie.InvT-loop
 Inv-loop lows highs i₀ i =

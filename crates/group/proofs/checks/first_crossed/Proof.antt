@@ -10,8 +10,6 @@ use Rattle.group.specs.Checks.{firstFailing}
 use Rattle.group.specs.Passed.{NoneBefore, first-here, first-after, first-nowhere}
 use Rattle.group.proofs.checks.first_crossed.Statement.{statement}
 use Rattle.group.proofs.checks.first_crossed.Tie as tie
-use Rattle.group.proofs.checks.first_crossed.Reads as reads
-use Rattle.group.proofs.checks.first_crossed.Lts as lts
 
 abbrev Inv-loop : tie.InvT-loop
 Inv-loop lows highs i₀ i =

@@ -5,8 +5,7 @@ use mathlib.Core.Bool.{true}
 use mathlib.Core.Path.{_≡_}
 use Rattle.model.specs.Levels.{topped, levelled}
 use Rattle.model.specs.Plans.{hasShares, hasPlan}
-use Rattle.model.specs.Laws.Levelled.{levelled-adds}
-use Rattle.group.specs.Sound.{HasShares, has-shares, levelled-is}
+use Rattle.group.specs.Sound.{HasShares, has-shares, levelled-is, levelled-total}
 use Rattle.group.proofs.plans.has_plan.Statement.{statement}
 use Rattle.group.proofs.plans.has_plan.Tie as tie
 
@@ -42,8 +41,7 @@ levelled-here c = levelled-is _ _ _ _ _ (c .before .level-at .ensures) (c .remai
 
 figures-at-requires : tie.Need-figures-at-requires
 figures-at-requires c κs =
-    let s = start (c .before .before) in
-    (s .pre, rw (levelled-here c) (levelled-adds (s .pre .ranges) (s .args .total) (shared (c .before .before) .low) (shared (c .before .before) .high)))
+    (start (c .before .before) .pre, levelled-total (shared (c .before .before)) _ _ (c .before .level-at .ensures) (c .remainder-at .ensures))
 
 met-requires : tie.Need-met-requires
 met-requires c κs = search needs
