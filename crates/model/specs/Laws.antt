@@ -2,3 +2,4 @@
 pub mod Lists
 pub mod Even
 pub mod Transfer
+pub mod Least
