@@ -38,7 +38,7 @@ allows-less (AtMost most) {f} {g} less held = le-leb g most (omega (arith, leb-t
 
 -- shares with no greater figures are within the same limits
 pub meets-less : (limits : Limits) (n total : ℕ) (xs ys : List ℕ)
-  → ((F : List ℕ → ℕ) → SchurConvex F → F ys ≤ F xs) → meets limits n total xs ≡ true → meets limits n total ys ≡ true
+    → ((F : List ℕ → ℕ) → SchurConvex F → F ys ≤ F xs) → meets limits n total xs ≡ true → meets limits n total ys ≡ true
 meets-less limits n total xs ys less held =
     both
     (allows-less (limits .deviation) (less (deviation n total) (deviation-schur n total)) (both-left _ _ held))
@@ -47,21 +47,21 @@ meets-less limits n total xs ys less held =
 
 -- where a plan is found, the levelled shares are one
 pub found-plan : {lows highs : List ℕ} → Ranges lows highs → (total : ℕ) (limits : Limits)
-  → hasPlan lows highs total limits ≡ true → Plan lows highs total limits (levelled lows highs total)
+    → hasPlan lows highs total limits ≡ true → Plan lows highs total limits (levelled lows highs total)
 unfolding hasPlan
 found-plan {lows} {highs} ranges total limits found =
     let shares : hasShares lows highs total ≡ true = both-left _ _ found in
     record {
       within = levelled-within ranges total;
       adds = levelled-adds ranges total
-        (leb-true (sum lows) total (both-left _ _ shares))
-        (leb-true total (sum highs) (both-right (leb (sum lows) total) _ shares));
-      meets = both-right (hasShares lows highs total) _ found
+          (leb-true (sum lows) total (both-left _ _ shares))
+          (leb-true total (sum highs) (both-right (leb (sum lows) total) _ shares));
+      meets = both-right (hasShares lows highs total) _ found;
     }
 
 -- where there is a plan, one is found
 pub plan-found : {lows highs : List ℕ} → Ranges lows highs → {total : ℕ} {limits : Limits} {xs : List ℕ}
-  → Plan lows highs total limits xs → hasPlan lows highs total limits ≡ true
+    → Plan lows highs total limits xs → hasPlan lows highs total limits ≡ true
 unfolding hasPlan
 plan-found {lows} {highs} ranges {total} {limits} {xs} plan =
     let low : sum lows ≤ total = omega (arith, within-sum-low (plan .within), plan .adds) in

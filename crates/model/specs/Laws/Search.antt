@@ -20,7 +20,7 @@ differ test a w fails holds same =
 
 -- where some value from a on passes, the first upward passes and is no greater
 pub firstUp-passes : (test : ℕ → Bool) (steps a w : ℕ) → test w ≡ true → a ≤ w → w ≤ a + steps
-  → Passing test a (firstUp test steps a) w
+    → Passing test a (firstUp test steps a) w
 unfolding firstUp
 firstUp-passes test zero a w holds low high =
     let same : a ≡ w = omega arith in
@@ -29,7 +29,7 @@ firstUp-passes test (suc steps) a w holds low high =
     go (test a) refl (λ more. firstUp-passes test steps (suc a) w holds more (omega arith))
   where
     go : (b : Bool) → test a ≡ b → (suc a ≤ w → Passing test (suc a) (firstUp test steps (suc a)) w)
-      → Passing test a (firstUp test (suc steps) a) w
+        → Passing test a (firstUp test (suc steps) a) w
     go true e next = rw (e, firstUp) (record { passes = e; from = omega arith; upTo = low })
     go false e next =
         let apart : a ≢ w = differ test a w e holds in
@@ -38,7 +38,7 @@ firstUp-passes test (suc steps) a w holds low high =
 
 -- where some value down from a passes, the first downward passes and is no less
 pub firstDown-passes : (test : ℕ → Bool) (steps a w : ℕ) → test w ≡ true → w ≤ a → a ≤ w + steps
-  → Passing test w (firstDown test steps a) a
+    → Passing test w (firstDown test steps a) a
 unfolding firstDown
 firstDown-passes test zero a w holds high low =
     let same : a ≡ w = omega arith in
@@ -47,7 +47,7 @@ firstDown-passes test (suc steps) a w holds high low =
     go (test a) refl (λ less. firstDown-passes test steps (a - 1) w holds less (omega arith))
   where
     go : (b : Bool) → test a ≡ b → (w ≤ a - 1 → Passing test w (firstDown test steps (a - 1)) (a - 1))
-      → Passing test w (firstDown test (suc steps) a) a
+        → Passing test w (firstDown test (suc steps) a) a
     go true e next = rw (e, firstDown) (record { passes = e; from = high; upTo = omega arith })
     go false e next =
         let apart : a ≢ w = differ test a w e holds in
