@@ -1,4 +1,5 @@
 -- The laws of one group, a file for each topic.
+pub mod Tests
 pub mod Lists
 pub mod Even
 pub mod Transfer
@@ -13,3 +14,4 @@ pub mod Pinned
 pub mod Narrowing
 pub mod Keeping
 pub mod Ends
+pub mod Turns

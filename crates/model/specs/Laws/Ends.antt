@@ -1,6 +1,6 @@
 -- How a search finds the ends of a narrowed range. Assumes nothing.
 use Prim.Native.Nat.{ℕ, suc, _-_, _≤_, _<_}
-use mathlib.Core.Bool.{Bool, true, false}
+use mathlib.Core.Bool.{true, false}
 use mathlib.Core.List.{List}
 use mathlib.Core.Path.{_≡_}
 use native.Mathlib.Nat.{le-antisymm}
@@ -12,11 +12,8 @@ use Rattle.model.specs.Plans.{hasPlan, taken, narrowedLow, narrowedHigh}
 use Rattle.model.specs.Laws.Narrowing.{kept-inside, kept-taken, taken-kept}
 use Rattle.model.specs.Laws.Pinned.{taken-plan, plan-taken}
 use Rattle.model.specs.Laws.Plans.{found-plan}
+use Rattle.model.specs.Laws.Tests.{clash}
 use Rattle.model.specs.declared.Limits.{Limits}
-
--- a test does not both hold and fail
-clash : {b : Bool} → b ≡ true → b ≡ false → ⊥
-clash holds fails = let z : _≡_ {A = ℕ} 0 1 = cc in omega arith
 
 module _ {lows highs : List ℕ} (ranges : Ranges lows highs) (total : ℕ) (limits : Limits) (found : hasPlan lows highs total limits ≡ true) (i : ℕ) (below : i < length lows) where
   -- a value in the range is kept exactly where the group pinned to it has a plan

@@ -1,18 +1,16 @@
 -- Narrowing keeps every plan, is monotone, and may be done one member after another in place. Assumes nothing.
-use Prim.Native.Nat.{ℕ, suc, _≤_, _<_}
-use mathlib.Core.Bool.{true, false}
+use Prim.Native.Nat.{ℕ, _≤_, _<_}
+use mathlib.Core.Bool.{true}
 use mathlib.Core.List.{List}
 use mathlib.Core.Logic.{_↔_}
-use mathlib.Core.Path.{_≡_, refl, sym, ap, _∙_}
-use native.Mathlib.Nat.{le-antisymm, le-refl}
-use native.Mathlib.Omega.{arith, by-contra}
+use mathlib.Core.Path.{_≡_, sym, _∙_}
+use native.Mathlib.Nat.{le-refl}
+use native.Mathlib.Omega.{arith}
 use lib.ListN.{length, getD}
-use Rattle.model.specs.Shares.{Ranges, Within, greatestShare}
-use Rattle.model.specs.Levels.{levelled}
-use Rattle.model.specs.Plans.{Plan, hasPlan, taken, narrowedLow, narrowedHigh, narrowedLows, narrowedHighs}
+use Rattle.model.specs.Shares.{Ranges}
+use Rattle.model.specs.Plans.{Plan, hasPlan, narrowedLow, narrowedHigh, narrowedLows, narrowedHighs}
 use Rattle.model.specs.Laws.Lists.{within-length, within-at, within-of, ranges-length, ranges-at, ranges-of}
-use Rattle.model.specs.Laws.Narrowing.{Taken, kept-inside, kept-taken, taken-kept, narrowedLows-length, narrowedHighs-length, narrowedLows-at, narrowedHighs-at}
-use Rattle.model.specs.Laws.Pinned.{plan-taken}
+use Rattle.model.specs.Laws.Narrowing.{kept-inside, kept-taken, taken-kept, narrowedLows-length, narrowedHighs-length, narrowedLows-at, narrowedHighs-at}
 use Rattle.model.specs.Laws.Plans.{found-plan, plan-found}
 use Rattle.model.specs.declared.Limits.{Limits}
 

@@ -1,20 +1,20 @@
 -- Narrowing keeps of each member exactly the values that some plan takes. Assumes nothing.
 use Prim.Native.Nat.{ℕ, zero, suc, _+_, _-_, _≤_, _<_}
 use mathlib.Core.Bool.{true}
-use mathlib.Core.List.{List, [], _∷_}
+use mathlib.Core.List.{List}
 use mathlib.Core.Path.{_≡_, refl, sym, ap, _∙_}
 use native.Mathlib.Decide.{decLe}
 use native.Mathlib.Nat.{le-of-suc-le-suc, le-dest}
 use native.Mathlib.Omega.{arith}
 use lib.ListN.{length, getD}
-use Rattle.model.specs.Shares.{Ranges, Within, sum}
+use Rattle.model.specs.Shares.{Ranges}
 use Rattle.model.specs.Levels.{levelled}
 use Rattle.model.specs.Plans.{Plan, hasPlan, taken, tabulate, narrowedLow, narrowedHigh, narrowedLows, narrowedHighs}
 use Rattle.model.specs.Laws.Least.{Stepped, step-down, step-up}
 use Rattle.model.specs.Laws.Levelled.{levelled-within, levelled-even}
-use Rattle.model.specs.Laws.Lists.{within-length, within-at, ranges-at}
+use Rattle.model.specs.Laws.Lists.{within-length, within-at}
 use Rattle.model.specs.Laws.Pinned.{taken-plan, plan-taken}
-use Rattle.model.specs.Laws.Plans.{meets-less, found-plan, plan-found}
+use Rattle.model.specs.Laws.Plans.{meets-less, found-plan}
 use Rattle.model.specs.Laws.Search.{Passing, firstUp-passes, firstDown-passes}
 use Rattle.model.specs.declared.Limits.{Limits}
 

@@ -1,9 +1,10 @@
 -- The first value upward or downward that passes a test. Assumes nothing.
-use Prim.Native.Nat.{ℕ, zero, suc, _+_, _-_, _≤_, _<_}
+use Prim.Native.Nat.{ℕ, zero, suc, _+_, _-_, _≤_}
 use mathlib.Core.Bool.{Bool, true, false}
 use mathlib.Core.Logic.{_≢_}
 use mathlib.Core.Path.{_≡_, refl, sym, ap, _∙_}
 use native.Mathlib.Omega.{arith}
+use Rattle.model.specs.Laws.Tests.{clash}
 use Rattle.model.specs.Plans.{firstUp, firstDown}
 
 -- a value between two others that passes the test
@@ -15,8 +16,7 @@ pub record Passing (test : ℕ → Bool) (low v high : ℕ) : Type 0 where
 -- a test that fails at one value and holds at another tells them apart
 differ : (test : ℕ → Bool) (a w : ℕ) → test a ≡ false → test w ≡ true → a ≢ w
 differ test a w fails holds same =
-    let e : test a ≡ test w = ap test same in
-    let z : _≡_ {A = ℕ} 0 1 = cc in omega arith
+    clash holds (ap test (sym same) ∙ fails)
 
 -- where some value from a on passes, the first upward passes and is no greater
 pub firstUp-passes : (test : ℕ → Bool) (steps a w : ℕ) → test w ≡ true → a ≤ w → w ≤ a + steps
