@@ -53,6 +53,7 @@ surplus : (ℕ → ℕ) → List ℕ → ℕ
 surplus even [] = 0
 surplus even (x ∷ xs) = (x - even 0) + surplus (λ k. even (suc k)) xs
 
+-- the surplus changes by what one replaced share changes it
 surplus-set : (even : ℕ → ℕ) (xs : List ℕ) (i y : ℕ) → i < length xs
     → surplus even (set xs i y) + (getD xs i 0 - even i) ≡ surplus even xs + (y - even i)
 unfolding surplus
@@ -67,11 +68,13 @@ pub record Stepped (lows highs xs ys : List ℕ) : Type 1 where
   pub lowers : (F : List ℕ → ℕ) → SchurConvex F → F ys ≤ F xs
 
 module _ {lows highs even xs : List ℕ} (we : Within lows highs even) (ev : Even lows highs even) (wx : Within lows highs xs) where
+  -- both lists have one share for each range
   same-length : length even ≡ length xs
   same-length = omega (arith, within-length we .0, within-length wx .0)
 
   -- member i, above its even share, gives one copy to member j, below its even share
   module _ (i j : ℕ) (p : i < length xs) (q : j < length xs) (up : getD even i 0 < getD xs i 0) (down : getD xs j 0 < getD even j 0) where
+    -- the giving share is the higher
     higher : getD xs j 0 < getD xs i 0
     higher = omega (
       arith,
@@ -79,6 +82,7 @@ module _ {lows highs even xs : List ℕ} (we : Within lows highs even) (ev : Eve
           (omega (arith, within-at wx i p .1)) (omega (arith, within-at wx j q .0)),
     )
 
+    -- the exchange is a step
     exchanged : Stepped lows highs xs (transfer i j xs)
     unfolding transfer
     exchanged = record {
@@ -91,6 +95,7 @@ module _ {lows highs even xs : List ℕ} (we : Within lows highs even) (ev : Eve
       lowers = λ F schur. schur .lowers xs i j p q higher;
     }
 
+    -- the exchange lowers the surplus
     nearer : surplus (λ k. getD even k 0) (transfer i j xs) < surplus (λ k. getD even k 0) xs
     nearer =
         let a : Additive (surplus (λ k. getD even k 0)) (λ k x. x - getD even k 0) = record { sets = surplus-set (λ k. getD even k 0) } in
@@ -109,7 +114,7 @@ module _ {lows highs even xs : List ℕ} (we : Within lows highs even) (ev : Eve
         let j : Lower even xs = partner even xs same-length (sym s) i (omega (arith, same-length)) h in
         (transfer (j .0) i xs, exchanged (j .0) i (omega (arith, same-length)) p (j .2) h, transfer-to xs (j .0) i p)
 
--- by induction on the surplus
+-- the least law, by induction on a bound above the surplus
 toward : {F : List ℕ → ℕ} → SchurConvex F → {lows highs even xs : List ℕ} → Within lows highs even → Even lows highs even
     → (fuel : ℕ) → surplus (λ k. getD even k 0) xs < fuel → Within lows highs xs → sum xs ≡ sum even → F even ≤ F xs
 toward schur we ev zero h wx s = absurd (omega arith)
