@@ -6,7 +6,7 @@ use lib.ListN.{length, getD}
 use Rattle.model.specs.Groups.{Group}
 use Rattle.model.specs.Plans.{Plan}
 use Rattle.model.specs.Shares.{Ranges}
-use Rattle.works.specs.Tables.{Table, gather}
+use Rattle.works.specs.Tables.{Table, Inside, Place, gather}
 
 -- 01: "A group names n different units", at least one, each one of the job's
 pub record SoundGroup (units : ℕ) (group : Group) : Type 0 where
@@ -20,10 +20,18 @@ pub record Sound (groups : List Group) (table : Table) : Type 0 where
   pub ranges : Ranges (table .lows) (table .highs)
   pub each : (group : Group) → List·Memᴰ group groups → SoundGroup (length (table .lows)) group
 
+-- 01: a unit in no group
+abbrev pub Apart : List Group → ℕ → Type 0
+Apart groups unit = (group : Group) → List·Memᴰ group groups → Place (group .members) unit → ⊥
+
 -- 01: a plan of the group drawn from the table
 abbrev pub PlanIn : Table → Group → List ℕ → Type 0
 PlanIn table group xs =
     Plan (gather (table .lows) (group .members)) (gather (table .highs) (group .members)) (group .total) (group .limits) xs
+
+-- 01: one choice of shares, one a unit, suits all groups at once
+abbrev pub Suits : List Group → Table → List ℕ → Type 0
+Suits groups table xs = (group : Group) → List·Memᴰ group groups → PlanIn table group (gather xs (group .members))
 
 -- every value of each member's range is taken by a plan of the group drawn from the table
 pub record Supported (table : Table) (group : Group) : Type 0 where
@@ -35,3 +43,7 @@ pub record Supported (table : Table) (group : Group) : Type 0 where
 pub record Consistent (groups : List Group) (table : Table) : Type 0 where
   pub ranges : Ranges (table .lows) (table .highs)
   pub each : (group : Group) → List·Memᴰ group groups → Supported table group
+
+-- no table inside this one is at rest
+abbrev pub NoneInside : List Group → Table → Type 0
+NoneInside groups table = (inner : Table) → Consistent groups inner → Inside inner table → ⊥

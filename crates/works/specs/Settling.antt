@@ -2,6 +2,7 @@
 use Prim.Native.Nat.{ℕ, zero, suc}
 use mathlib.Core.Bool.{Bool, true, false}
 use mathlib.Core.List.{List, [], _∷_}
+use mathlib.Core.Option.{Option, none, some}
 use Rattle.model.specs.Groups.{Group}
 use Rattle.model.specs.Plans.{turnOf, narrowedLows, narrowedHighs}
 use Rattle.model.specs.declared.Turn.{Turn}
@@ -75,3 +76,8 @@ settle groups table = settleFrom (suc (widths (table .lows) (table .highs))) 0 g
 abbrev pub passesOf : Outcome → ℕ
 passesOf (settled table passes) = passes
 passesOf (refused number place passes) = passes
+
+-- 01: the settled table, none where the settling is refused for want of a plan
+abbrev pub settledTable : Outcome → Option Table
+settledTable (settled table passes) = some table
+settledTable (refused number place passes) = none
