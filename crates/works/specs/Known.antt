@@ -1,19 +1,18 @@
 -- The known shares of 01, of groups and of jobs: one list of cases, and one check that computes over it. Assumes nothing.
-use Prim.Native.Nat.{ℕ, zero, suc, _+_, _<_}
+use Prim.Native.Nat.{ℕ, zero, suc, _<_}
 use mathlib.Core.Bool.{Bool, true, false, _&&_}
-use mathlib.Core.List.{List, [], _∷_, _++_, map, List·Memᴰ, List·Memᴰ·head, List·Memᴰ·tail, List·Memᴰ·not-nil, List·Memᴰ·cases-cons}
+use mathlib.Core.List.{List, [], _∷_, _++_, map, List·Memᴰ·head, List·Memᴰ·tail, List·Memᴰ·not-nil, List·Memᴰ·cases-cons}
 use mathlib.Core.Logic.{_≢_, ⊎-elim}
 use mathlib.Core.Path.{_≡_, refl}
 use native.Mathlib.Omega.{arith}
 use lib.Dec.{eqb}
-use lib.ListN.{length, getD}
-use Rattle.model.specs.Shares.{Ranges, greatestShare, sum, sumOf}
+use lib.ListN.{getD}
+use Rattle.model.specs.Shares.{Ranges, sum, sumOf}
 use Rattle.model.specs.Figures.{deviation, spread}
 use Rattle.model.specs.Groups.{Group}
 use Rattle.model.specs.Known.{Known, known, holds, first, ten, three, limitsOf, sameList}
 use Rattle.model.specs.Levels.{clamped, totalAt, levelBelow, level, topped, remainder, levelled}
 use Rattle.model.specs.Plans.{hasPlan, turnOf, firstUp, firstDown, narrowedLow, narrowedHigh, tabulate, narrowedLows, narrowedHighs}
-use Rattle.model.specs.declared.Limit.{Limit}
 use Rattle.model.specs.declared.Limit.the-variants.{Any, AtMost}
 use Rattle.works.specs.Consistency.{SoundGroup, Sound, Consistent, Suits}
 use Rattle.works.specs.Settling.{Outcome, narrowed, revise, passFrom, settleFrom, settle}
@@ -103,7 +102,7 @@ none-or-one ranges = Ranges.also {l = 0} {h = 1} (omega arith) (omega arith) ran
 pub pairs-sound : Sound pairs pairTable
 unfolding pairs pairTable
 pairs-sound = record {
-  ranges = none-or-one (none-or-one (none-or-one Ranges.none));
+  valid = none-or-one (none-or-one (none-or-one Ranges.none));
   each = λ group member.
       ⊎-elim (λ e. rw e (pair-sound 3 0 1 (omega arith) (omega arith) (omega arith)))
       (λ later. ⊎-elim (λ e. rw e (pair-sound 3 0 2 (omega arith) (omega arith) (omega arith)))

@@ -2,13 +2,12 @@
 use Prim.Native.Nat.{ℕ, zero, suc, _+_, _≤_, _<_}
 use mathlib.Core.Bool.{Bool, true, false}
 use mathlib.Core.List.{List}
-use mathlib.Core.Path.{_≡_, refl, sym, _∙_}
+use mathlib.Core.Path.{_≡_, refl}
 use native.Mathlib.Omega.{arith, by-contra}
-use lib.ListN.{getD}
 use Rattle.model.specs.Groups.{Group}
 use Rattle.works.specs.Consistency.{Sound, Consistent, NoneInside}
 use Rattle.works.specs.Settling.{Passed, Outcome, pass, settleFrom, settle}
-use Rattle.works.specs.Tables.{Table, sameTable, widths, Inside}
+use Rattle.works.specs.Tables.{Table, sameTable, width, Inside}
 use Rattle.works.specs.Laws.Inside.{inside-refl, inside-trans, same-table, changed, widths-same}
 use Rattle.works.specs.Laws.Passes.{After, sound-inside, pass-after, pass-keeps, pass-quiet}
 
@@ -32,7 +31,7 @@ before after keeps (Right.settled greatest bound) =
     (record {
       after = record {
         inside = inside-trans (greatest .after .inside) (after .inside);
-        ranges = greatest .after .ranges;
+        valid = greatest .after .valid;
         untouched = λ unit apart. omega (arith, greatest .after .untouched unit apart, after .untouched unit apart);
       };
       consistent = greatest .consistent;
@@ -44,9 +43,9 @@ before after keeps (Right.refused none bound) =
 
 -- one pass and what follows it, given that what follows is right
 module _ (more done most : ℕ) (groups : List Group) (table : Table) (sound : Sound groups table)
-    (enough : widths (table .lows) (table .highs) < suc more) (bound : done + suc (widths (table .lows) (table .highs)) ≤ most)
-    (rest : (next : Table) → Sound groups next → widths (next .lows) (next .highs) < more
-    → suc done + suc (widths (next .lows) (next .highs)) ≤ most → Right groups next most (settleFrom more (suc done) groups next))
+    (enough : width table < suc more) (bound : done + suc (width table) ≤ most)
+    (rest : (next : Table) → Sound groups next → width next < more
+    → suc done + suc (width next) ≤ most → Right groups next most (settleFrom more (suc done) groups next))
   where
     -- after a pass that leaves a table
     passing : (next : Table) → pass groups table ≡ Passed.passed next → (same : Bool) → sameTable next table ≡ same
@@ -56,9 +55,9 @@ module _ (more done most : ℕ) (groups : List Group) (table : Table) (sound : S
         rw (e, test, settleFrom)
         (Right.settled {passes = suc done}
         (record {
-          after = record { inside = inside-refl table; ranges = sound .ranges; untouched = λ unit apart. (refl, refl) };
+          after = record { inside = inside-refl table; valid = sound .valid; untouched = λ unit apart. (refl, refl) };
           consistent = record {
-            ranges = sound .ranges;
+            valid = sound .valid;
             each = pass-quiet 1 groups table next sound e (rw (same-table test) (inside-refl table));
           };
           holds = λ inner consistent inside. inside;
@@ -66,15 +65,15 @@ module _ (more done most : ℕ) (groups : List Group) (table : Table) (sound : S
         (omega arith))
     passing next e false test =
         let after : After groups next table = pass-after 1 groups table next sound e in
-        let fewer : widths (next .lows) (next .highs) < widths (table .lows) (table .highs) =
-        by-contra _ _ (λ wide. changed test (widths-same (after .ranges) (sound .ranges) (after .inside) (omega arith))) in
+        let fewer : width next < width table =
+        by-contra _ _ (λ wide. changed test (widths-same (after .valid) (sound .valid) (after .inside) (omega arith))) in
         rw (e, test, settleFrom)
         (before after
         (λ inner consistent inside.
         let (kept, same, within) = pass-keeps 1 groups table sound consistent inside in
         let one : kept ≡ next = cc in
         rw one at within)
-        (rest next (sound-inside sound (after .ranges) (after .inside)) (omega arith) (omega arith)))
+        (rest next (sound-inside sound (after .valid) (after .inside)) (omega arith) (omega arith)))
 
     -- after any pass
     turning : (answer : Passed) → pass groups table ≡ answer → Right groups table most (settleFrom (suc more) done groups table)
@@ -91,7 +90,7 @@ module _ (more done most : ℕ) (groups : List Group) (table : Table) (sound : S
 
 -- with passes enough, settling ends right
 ends : (more done most : ℕ) (groups : List Group) (table : Table) → Sound groups table
-    → widths (table .lows) (table .highs) < more → done + suc (widths (table .lows) (table .highs)) ≤ most
+    → width table < more → done + suc (width table) ≤ most
     → Right groups table most (settleFrom more done groups table)
 ends zero done most groups table sound enough bound = absurd (omega arith)
 ends (suc more) done most groups table sound enough bound =
@@ -99,6 +98,6 @@ ends (suc more) done most groups table sound enough bound =
 
 -- settling ends right, after at most 1 plus the sum of widths passes
 pub settle-right : (groups : List Group) (table : Table) → Sound groups table
-    → Right groups table (suc (widths (table .lows) (table .highs))) (settle groups table)
+    → Right groups table (suc (width table)) (settle groups table)
 unfolding settle
 settle-right groups table sound = ends _ 0 _ groups table sound (omega arith) (omega arith)

@@ -1,5 +1,5 @@
 -- Tables inside tables: an order, and the sum of widths falls with each change. Assumes nothing.
-use Prim.Native.Nat.{ℕ, zero, suc, _+_, _≤_, _<_}
+use Prim.Native.Nat.{ℕ, suc, _+_, _≤_}
 use mathlib.Core.Bool.{true, false, true≢false, false≢true}
 use mathlib.Core.List.{List, [], _∷_}
 use mathlib.Core.Path.{_≡_, refl, sym, ap, _∙_}
@@ -10,21 +10,21 @@ use lib.Dec.{eqb}
 use lib.ListN.{length, getD}
 use lib.Seq.{ext-getD}
 use Rattle.model.specs.Known.{sameList}
-use Rattle.model.specs.Laws.Lists.{sum-le, ranges-length, ranges-at, ranges-of}
+use Rattle.model.specs.Laws.Lists.{sum-le}
 use Rattle.model.specs.Laws.Plans.{both-left, both-right}
 use Rattle.model.specs.Shares.{Ranges, sum}
-use Rattle.works.specs.Tables.{Table, sameTable, widths, Inside}
+use Rattle.works.specs.Tables.{Table, Valid, sameTable, widths, width, Inside}
 
 -- a table lies inside itself
 pub inside-refl : (table : Table) → Inside table table
-inside-refl table = record { units = refl; highs = refl; above = λ unit. omega arith; below = λ unit. omega arith }
+inside-refl table = record { sameLows = refl; sameHighs = refl; above = λ unit. omega arith; below = λ unit. omega arith }
 
 -- inside a table that lies inside a third
 pub inside-trans : {a b c : Table} → Inside a b → Inside b c → Inside a c
 inside-trans p q =
     record {
-      units = omega arith;
-      highs = omega arith;
+      sameLows = omega arith;
+      sameHighs = omega arith;
       above = λ unit. omega (arith, p .above unit, q .above unit);
       below = λ unit. omega (arith, p .below unit, q .below unit);
     }
@@ -39,8 +39,8 @@ same-ranges {a} {b} p q =
 pub inside-both : {a b : Table} → Inside a b → Inside b a → a ≡ b
 inside-both {a} {b} p q =
     same-ranges
-    (ext-getD 0 (a .lows) (b .lows) (p .units) (λ unit h. omega (arith, p .above unit, q .above unit)))
-    (ext-getD 0 (a .highs) (b .highs) (p .highs) (λ unit h. omega (arith, p .below unit, q .below unit)))
+    (ext-getD 0 (a .lows) (b .lows) (p .sameLows) (λ unit h. omega (arith, p .above unit, q .above unit)))
+    (ext-getD 0 (a .highs) (b .highs) (p .sameHighs) (λ unit h. omega (arith, p .below unit, q .below unit)))
 
 -- the test of two lists holds exactly if they are the same
 same-list : (xs ys : List ℕ) → sameList xs ys ≡ true → xs ≡ ys
@@ -90,13 +90,13 @@ sum-same (x ∷ xs) (y ∷ ys) sizes under least =
     cc
 
 -- a table inside another with no lower sum of widths is the same
-pub widths-same : {inner outer : Table} → Ranges (inner .lows) (inner .highs) → Ranges (outer .lows) (outer .highs)
-    → Inside inner outer → widths (outer .lows) (outer .highs) ≤ widths (inner .lows) (inner .highs) → inner ≡ outer
+pub widths-same : {inner outer : Table} → Valid inner → Valid outer
+    → Inside inner outer → width outer ≤ width inner → inner ≡ outer
 widths-same {inner} {outer} small large inside wide =
-    let lows : sum (outer .lows) ≤ sum (inner .lows) = sum-le _ _ (sym (inside .units)) (λ i h. inside .above i) in
-    let highs : sum (inner .highs) ≤ sum (outer .highs) = sum-le _ _ (inside .highs) (λ i h. inside .below i) in
+    let lows : sum (outer .lows) ≤ sum (inner .lows) = sum-le _ _ (sym (inside .sameLows)) (λ i h. inside .above i) in
+    let highs : sum (inner .highs) ≤ sum (outer .highs) = sum-le _ _ (inside .sameHighs) (λ i h. inside .below i) in
     let sums : (sum (inner .lows) ≤ sum (outer .lows)) × (sum (outer .highs) ≤ sum (inner .highs)) =
     omega (arith, widths-sums small, widths-sums large) in
     same-ranges
-    (sym (sum-same (outer .lows) (inner .lows) (sym (inside .units)) (inside .above) (sums .0)))
-    (sum-same (inner .highs) (outer .highs) (inside .highs) (inside .below) (sums .1))
+    (sym (sum-same (outer .lows) (inner .lows) (sym (inside .sameLows)) (inside .above) (sums .0)))
+    (sum-same (inner .highs) (outer .highs) (inside .sameHighs) (inside .below) (sums .1))

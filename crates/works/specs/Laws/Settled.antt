@@ -2,17 +2,16 @@
 use Prim.Native.Nat.{ℕ, suc, _≤_}
 use mathlib.Core.List.{List, List·Memᴰ}
 use mathlib.Core.Logic.{_↔_}
-use mathlib.Core.Option.{Option, none, some}
-use mathlib.Core.Path.{_≡_, refl, sym, ap, _∙_}
+use mathlib.Core.Option.{none, some}
+use mathlib.Core.Path.{_≡_, refl, ap}
 use native.Mathlib.Omega.{arith}
-use lib.ListN.{getD}
 use Rattle.model.specs.Groups.{Group}
 use Rattle.works.specs.Consistency.{Sound, Apart, Consistent, NoneInside}
 use Rattle.works.specs.Settling.{Outcome, Passed, pass, passesOf, settledTable, settleFrom, settle}
-use Rattle.works.specs.Tables.{Table, widths, Inside}
+use Rattle.works.specs.Tables.{Table, lowOf, highOf, width, Inside}
 use Rattle.works.specs.Laws.Ends.{Greatest, Right, settle-right}
 use Rattle.works.specs.Laws.Inside.{inside-refl, inside-both, table-same}
-use Rattle.works.specs.Laws.Passes.{After, sound-inside, pass-after, pass-keeps}
+use Rattle.works.specs.Laws.Passes.{sound-inside, pass-after, pass-keeps}
 
 module _ {groups : List Group} {table : Table} (sound : Sound groups table) where
   -- the settled table is the greatest consistent one inside the opening table
@@ -37,7 +36,7 @@ module _ {groups : List Group} {table : Table} (sound : Sound groups table) wher
 
   -- units in no group keep their range
   pub untouched : {final : Table} {passes : ℕ} → settle groups table ≡ Outcome.settled final passes → (unit : ℕ) → Apart groups unit
-      → (getD (final .lows) unit 0 ≡ getD (table .lows) unit 0) × (getD (final .highs) unit 0 ≡ getD (table .highs) unit 0)
+      → (lowOf final unit ≡ lowOf table unit) × (highOf final unit ≡ highOf table unit)
   untouched e = greatest e .after .untouched
 
   -- settling is refused for want of a plan exactly if no table inside the opening one is consistent
@@ -52,7 +51,7 @@ module _ {groups : List Group} {table : Table} (sound : Sound groups table) wher
       right-exactly (Right.refused none-inside bound) = (λ e. none-inside, λ again. refl)
 
   -- the passes are at most 1 plus the sum of high − low over the opening table
-  pub passes-bound : passesOf (settle groups table) ≤ suc (widths (table .lows) (table .highs))
+  pub passes-bound : passesOf (settle groups table) ≤ suc (width table)
   passes-bound = right-bound (settle-right groups table sound)
     where
       right-bound : {most : ℕ} {outcome : Outcome} → Right groups table most outcome → passesOf outcome ≤ most
@@ -74,7 +73,7 @@ pub settled-again : {groups : List Group} {table final : Table} {passes : ℕ} �
     → settle groups table ≡ Outcome.settled final passes → settle groups final ≡ Outcome.settled final 1
 settled-again sound e =
     consistent-settles
-    (sound-inside sound (settled-consistent sound e .ranges) (settled-inside sound e))
+    (sound-inside sound (settled-consistent sound e .valid) (settled-inside sound e))
     (settled-consistent sound e)
 
 -- any two orders of the groups give the same settled table, or both are refused for want of a plan
@@ -85,13 +84,13 @@ any-order {groups} {others} {table} sound same =
     agree (settle-right groups table sound) (settle-right others table others-sound)
   where
     others-sound : Sound others table
-    others-sound = record { ranges = sound .ranges; each = λ group member. sound .each group (same group .1 member) }
+    others-sound = record { valid = sound .valid; each = λ group member. sound .each group (same group .1 member) }
 
     there : {inner : Table} → Consistent groups inner → Consistent others inner
-    there c = record { ranges = c .ranges; each = λ group member. c .each group (same group .1 member) }
+    there c = record { valid = c .valid; each = λ group member. c .each group (same group .1 member) }
 
     back : {inner : Table} → Consistent others inner → Consistent groups inner
-    back c = record { ranges = c .ranges; each = λ group member. c .each group (same group .0 member) }
+    back c = record { valid = c .valid; each = λ group member. c .each group (same group .0 member) }
 
     agree : {most : ℕ} {a b : Outcome} → Right groups table most a → Right others table most b → settledTable a ≡ settledTable b
     agree (Right.settled {final = one} a p) (Right.settled {final = other} b q) =
