@@ -1,6 +1,6 @@
 -- Levelling a group: the level, the remainder and the levelled shares. Assumes nothing.
 use Prim.Native.Nat.{ℕ, zero, suc, _+_, _-_, _/_, min, max}
-use mathlib.Core.Bool.{Bool, true, false, _&&_}
+use mathlib.Core.Bool.{true, false, _&&_}
 use mathlib.Core.List.{List, [], _∷_}
 use lib.Dec.{leb, ltb}
 use Rattle.model.specs.Shares.{pick, greatestShare, sum}

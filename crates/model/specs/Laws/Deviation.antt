@@ -1,7 +1,7 @@
 -- The deviation: twice its part on either side of the mean, and 01's bound below it, with where it is reached. Assumes nothing.
 use Prim.Native.Nat.{ℕ, suc, _+_, _-_, _*_, _≤_, _<_, max}
 use mathlib.Core.List.{List, [], _∷_}
-use mathlib.Core.Path.{_≡_, refl, ap}
+use mathlib.Core.Path.{_≡_, refl, sym}
 use native.Mathlib.Decide.{decLe}
 use native.Mathlib.Nat.{mul-le-mul-left}
 use native.Mathlib.Omega.{arith}
@@ -10,6 +10,7 @@ use Rattle.model.specs.Shares.{Ranges, Within, sum, sumOf}
 use Rattle.model.specs.Shares.Within.{none, also}
 use Rattle.model.specs.Figures.{deviation}
 use Rattle.model.specs.Levels.{levelled}
+use Rattle.model.specs.Laws.Lists.{within-length}
 use Rattle.model.specs.Laws.Levelled.{near-at, levelled-near, levelled-within, levelled-adds}
 
 -- 01: "twice the larger of two sums: of S − n × high over members where that is positive, and of n × low − S likewise"
@@ -111,11 +112,6 @@ module _ {lows highs xs : List ℕ} (within : Within lows highs xs) where
             omega (arith, deviation-twice xs, at-lows _ _ (suc v) mean within near-lows, below-bound, above-bound)
       ]
 
--- shares within ranges are as many as the lows
-as-many : {lows highs xs : List ℕ} → Within lows highs xs → length xs ≡ length lows
-as-many none = refl
-as-many (also low high w) = ap suc (as-many w)
-
 -- when n divides S, the levelled shares reach the bound (001, theorem 4)
 pub levelled-reaches-bound : {lows highs : List ℕ} → Ranges lows highs → (total q : ℕ)
     → sum lows ≤ total → total ≤ sum highs → total ≡ length lows * q
@@ -124,7 +120,7 @@ levelled-reaches-bound {lows} {highs} ranges total q least greatest divides =
     let xs : List ℕ = levelled lows highs total in
     let within : Within lows highs xs = levelled-within ranges total in
     let adds : sum xs ≡ total = levelled-adds ranges total least greatest in
-    let many : length xs ≡ length lows = as-many within in
+    let many : length xs ≡ length lows = sym (within-length within .0) in
     let near = near-at (levelled-near ranges total) in
     let divided : sum xs ≡ length xs * q = rw (adds, many) divides in
     let reached = reaches-bound within _ q (λ i inside. near i inside .0) (λ i inside. near i inside .1) divided in

@@ -1,11 +1,12 @@
 -- The spread: it is 002's figure, it never goes below zero, and sums of shares stay small. Assumes nothing.
 use Prim.Native.Nat.{ℕ, suc, _+_, _*_, _≤_, _<_}
 use mathlib.Core.List.{List, [], _∷_}
-use mathlib.Core.Path.{_≡_, refl}
+use mathlib.Core.Path.{_≡_}
 use native.Mathlib.Decide.{decLe}
 use native.Mathlib.Nat.{le-of-mul-le-mul-left, mul-le-mul, mul-sub}
 use native.Mathlib.Omega.{arith}
 use lib.ListN.{length, getD}
+use Rattle.model.specs.Laws.Lists.{sum-sumOf}
 use Rattle.model.specs.Shares.{sum, sumOf}
 use Rattle.model.specs.Figures.{apart, spread}
 
@@ -53,12 +54,6 @@ unfolding sumOf
 sumOf-bound f b [] h = omega arith
 sumOf-bound f b (x ∷ xs) h =
     omega (arith, h 0 (omega arith), sumOf-bound f b xs (λ i below. h (suc i) (omega arith)))
-
--- the total is the sum of the shares themselves
-sum-sumOf : (xs : List ℕ) → sum xs ≡ sumOf (λ x. x) xs
-unfolding sum sumOf
-sum-sumOf [] = refl
-sum-sumOf (x ∷ xs) = omega (arith, sum-sumOf xs)
 
 -- n shares of at most m add up to at most n × m
 pub sum-bound : (m : ℕ) (xs : List ℕ) → ((i : ℕ) → getD xs i 0 ≤ m) → sum xs ≤ length xs * m

@@ -1,5 +1,5 @@
 -- The exchange of one copy between two members, and the figures that it never raises. Assumes nothing.
-use Prim.Native.Nat.{ℕ, zero, suc, _+_, _-_, _*_, _≤_, _<_}
+use Prim.Native.Nat.{ℕ, suc, _+_, _-_, _*_, _≤_, _<_}
 use mathlib.Core.List.{List}
 use mathlib.Core.Path.{_≡_, sym, ap}
 use mathlib.Core.Logic.{_≢_}
@@ -41,15 +41,21 @@ pub record Additive (G : List ℕ → ℕ) (part : ℕ → ℕ → ℕ) : Type 0
 -- an exchange changes the parts of its two members alone
 pub additive-transfer : {G : List ℕ → ℕ} {part : ℕ → ℕ → ℕ} → Additive G part
     → (xs : List ℕ) (i j : ℕ) → i < length xs → j < length xs → getD xs j 0 < getD xs i 0
-    → G (transfer i j xs) + (part i (getD xs i 0) + part j (getD xs j 0)) ≡ G xs + (part i (getD xs i 0 - 1) + part j (suc (getD xs j 0)))
+    → G (transfer i j xs) + (part i (getD xs i 0) + part j (getD xs j 0))
+    ≡ G xs + (part i (getD xs i 0 - 1) + part j (suc (getD xs j 0)))
 unfolding transfer
 additive-transfer a xs i j p q h =
     let kept : getD (set xs i (getD xs i 0 - 1)) j 0 ≡ getD xs j 0 = getD-set-other xs i j _ 0 (other xs i j h) in
-    omega (arith, a .sets xs i (getD xs i 0 - 1) p, rw kept at (a .sets (set xs i (getD xs i 0 - 1)) j (suc (getD xs j 0)) (lt-length-set xs i _ q)))
+    omega (
+      arith,
+      a .sets xs i (getD xs i 0 - 1) p,
+      rw kept at (a .sets (set xs i (getD xs i 0 - 1)) j (suc (getD xs j 0)) (lt-length-set xs i _ q)),
+    )
 
 -- never raised by an exchange from a higher to a lower share
 pub record SchurConvex (F : List ℕ → ℕ) : Type 0 where
-  pub lowers : (xs : List ℕ) (i j : ℕ) → i < length xs → j < length xs → getD xs j 0 < getD xs i 0 → F (transfer i j xs) ≤ F xs
+  pub lowers : (xs : List ℕ) (i j : ℕ) → i < length xs → j < length xs
+      → getD xs j 0 < getD xs i 0 → F (transfer i j xs) ≤ F xs
 
 -- one copy more adds no less to a higher share than to a lower one
 pub record Convex (f : ℕ → ℕ) : Type 0 where
@@ -68,18 +74,22 @@ sumOf-schur {f} c = record {
 plus-convex : {f g : ℕ → ℕ} → Convex f → Convex g → Convex (λ x. f x + g x)
 plus-convex c d = record { bends = λ a b h. omega (arith, c .bends a b h, d .bends a b h) }
 
+-- the copies over the mean and under it, n times, are convex
 over-convex : (n total : ℕ) → Convex (λ x. n * x - total)
 over-convex n total = record { bends = λ a b h. omega (arith, mul-le-mul-left n h) }
 
 under-convex : (n total : ℕ) → Convex (λ x. total - n * x)
 under-convex n total = record { bends = λ a b h. omega (arith, mul-le-mul-left n h) }
 
+-- a share's part of the deviation is convex
 deviation-convex : (n total : ℕ) → Convex (λ x. apart (n * x) total)
 deviation-convex n total = plus-convex (over-convex n total) (under-convex n total)
 
+-- a share's square is convex
 square-convex : Convex (λ x. x * x)
 square-convex = record { bends = λ a b h. omega arith }
 
+-- a share's copies above t are convex
 above-convex : (t : ℕ) → Convex (λ x. x - t)
 above-convex t = record { bends = λ a b h. omega arith }
 

@@ -1,0 +1,74 @@
+-- What a turn's answer means: narrowed, 11 and 12 are told apart by the shares and plans there are. Assumes nothing.
+use Prim.Native.Nat.{ℕ}
+use mathlib.Core.Bool.{Bool, true, false}
+use mathlib.Core.List.{List}
+use mathlib.Core.Path.{_≡_, refl}
+use native.Mathlib.Omega.{arith}
+use lib.Dec.{leb}
+use borrow.Author.Tests.{le-leb, leb-true}
+use Rattle.model.specs.Shares.{pick, Ranges, Within, sum}
+use Rattle.model.specs.Levels.{levelled}
+use Rattle.model.specs.Plans.{Plan, hasShares, hasPlan, turnOf}
+use Rattle.model.specs.Laws.Levelled.{shares-exist}
+use Rattle.model.specs.Laws.Plans.{found-plan, plan-found}
+use Rattle.model.specs.Laws.Tests.{both, both-left, both-right, clash}
+use Rattle.model.specs.declared.Limits.{Limits}
+use Rattle.model.specs.declared.Turn.{Turn}
+use Rattle.model.specs.declared.Turn.the-variants.{Narrowed, NoPlan}
+
+-- some shares in the ranges have the total
+abbrev pub Shares : List ℕ → List ℕ → ℕ → Type 0
+Shares lows highs total = (xs : List ℕ) × Within lows highs xs × (sum xs ≡ total)
+
+-- some plan is there
+abbrev pub Plans : List ℕ → List ℕ → ℕ → Limits → Type 0
+Plans lows highs total limits = (xs : List ℕ) × Plan lows highs total limits xs
+
+-- 01: 11 "lows add up to more than S or highs to less", so no shares; 12 "shares exist, none within the limits"
+pub data Verdict (lows highs : List ℕ) (total : ℕ) (limits : Limits) : Turn → Type 0 where
+  narrowed : Plans lows highs total limits → Verdict lows highs total limits Narrowed
+  noShares : (Shares lows highs total → ⊥) → Verdict lows highs total limits (NoPlan 11)
+  noPlan : Shares lows highs total → (Plans lows highs total limits → ⊥) → Verdict lows highs total limits (NoPlan 12)
+
+module _ {lows highs : List ℕ} (ranges : Ranges lows highs) (total : ℕ) (limits : Limits) where
+  -- shares exist exactly where the test finds them
+  shares-found : Shares lows highs total → hasShares lows highs total ≡ true
+  shares-found shares =
+      both (le-leb _ _ (shares-exist ranges total .0 shares .0)) (le-leb _ _ (shares-exist ranges total .0 shares .1))
+
+  found-shares : hasShares lows highs total ≡ true → Shares lows highs total
+  found-shares found =
+      shares-exist ranges total .1
+      (leb-true _ _ (both-left _ _ found), leb-true _ _ (both-right (leb (sum lows) total) _ found))
+
+  by-tests : (s p : Bool) → hasShares lows highs total ≡ s → hasPlan lows highs total limits ≡ p
+      → Verdict lows highs total limits (turnOf lows highs total limits)
+  unfolding turnOf
+  by-tests false p shares plan = rw shares (Verdict.noShares (λ some. clash (shares-found some) shares))
+  by-tests true false shares plan =
+      rw (shares, plan) (Verdict.noPlan (found-shares shares) (λ some. clash (plan-found ranges (some .1)) plan))
+  by-tests true true shares plan =
+      rw (shares, plan) (Verdict.narrowed (levelled lows highs total, found-plan ranges total limits plan))
+
+  -- a turn is refused 11 exactly where no shares have the total, and 12 exactly where some have and none is a plan
+  pub verdict : Verdict lows highs total limits (turnOf lows highs total limits)
+  verdict = by-tests (hasShares lows highs total) (hasPlan lows highs total limits) refl refl
+
+-- a turn narrows exactly where its group has a plan
+module _ (lows highs : List ℕ) (total : ℕ) (limits : Limits) where
+  has-shares : hasPlan lows highs total limits ≡ true → hasShares lows highs total ≡ true
+  unfolding hasPlan
+  has-shares found = both-left _ _ found
+
+  pub found-turn : hasPlan lows highs total limits ≡ true → turnOf lows highs total limits ≡ Narrowed
+  unfolding turnOf
+  found-turn found = rw (has-shares found, found)
+
+  pub turn-found : turnOf lows highs total limits ≡ Narrowed → hasPlan lows highs total limits ≡ true
+  unfolding turnOf
+  turn-found turn = chosen (hasShares lows highs total) (hasPlan lows highs total limits) turn
+    where
+      chosen : (shares plan : Bool) → pick shares (pick plan Narrowed (NoPlan 12)) (NoPlan 11) ≡ Narrowed → plan ≡ true
+      chosen true true e = refl
+      chosen true false e = absurd (let z : _≡_ {A = ℕ} 0 1 = cc in omega arith)
+      chosen false plan e = absurd (let z : _≡_ {A = ℕ} 0 1 = cc in omega arith)
