@@ -12,9 +12,9 @@ use std::process::ExitCode;
 use std::time::Instant;
 
 /// How often each contender is timed.
-const ROUNDS: usize = 15;
-/// The least length of a round, in microseconds.
-const ROUND: f64 = 3_000.0;
+const ROUNDS: usize = 101;
+/// The length of a round in microseconds, or one call: short, so that other work on the machine hits few rounds.
+const ROUND: f64 = 300.0;
 
 /// One planner in a comparison, by name; a call says whether it was not refused.
 type Contender<'a> = (&'a str, Box<dyn FnMut() -> bool + 'a>);
