@@ -1,0 +1,4 @@
+pub mod Kinds
+pub mod Parsed
+pub mod Numbers
+pub mod Printed
