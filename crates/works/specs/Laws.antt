@@ -1,0 +1,2 @@
+-- The laws of settling, a file for each topic.
+pub mod Members

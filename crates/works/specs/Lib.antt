@@ -1,0 +1,5 @@
+pub mod Tables
+pub mod Settling
+pub mod Consistency
+pub mod Known
+pub mod Laws

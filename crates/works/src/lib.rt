@@ -1,0 +1,1 @@
+// Settling: many groups over shared units.
