@@ -8,6 +8,7 @@ pub mod Level
 pub mod Levelled
 pub mod Spread
 pub mod Deviation
+pub mod Walk
 pub mod Plans
 pub mod Search
 pub mod Pinned
