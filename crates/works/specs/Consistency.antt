@@ -2,36 +2,44 @@
 use Prim.Native.Nat.{ℕ, _≤_, _<_}
 use mathlib.Core.List.{List, List·Memᴰ}
 use mathlib.Core.Path.{_≡_}
-use lib.ListN.{length, getD}
+use lib.ListN.{getD}
 use Rattle.model.specs.Groups.{Group}
 use Rattle.model.specs.Plans.{Plan}
-use Rattle.model.specs.Shares.{Ranges}
-use Rattle.works.specs.Tables.{Table, gather}
+use Rattle.works.specs.Tables.{Table, Valid, units, lowOf, highOf, Inside, Place, gather, lowsOf, highsOf, size, unitOf}
 
 -- 01: "A group names n different units", at least one, each one of the job's
-pub record SoundGroup (units : ℕ) (group : Group) : Type 0 where
-  pub some : 0 < length (group .members)
-  pub below : (k : ℕ) → k < length (group .members) → getD (group .members) k 0 < units
-  pub different : (j k : ℕ) → j < length (group .members) → k < length (group .members)
-      → getD (group .members) j 0 ≡ getD (group .members) k 0 → j ≡ k
+pub record SoundGroup (count : ℕ) (group : Group) : Type 0 where
+  pub some : 0 < size group
+  pub below : (k : ℕ) → k < size group → unitOf group k < count
+  pub different : (j k : ℕ) → j < size group → k < size group → unitOf group j ≡ unitOf group k → j ≡ k
 
 -- the groups and the opening table that the checks ahead of settling let through
 pub record Sound (groups : List Group) (table : Table) : Type 0 where
-  pub ranges : Ranges (table .lows) (table .highs)
-  pub each : (group : Group) → List·Memᴰ group groups → SoundGroup (length (table .lows)) group
+  pub valid : Valid table
+  pub each : (group : Group) → List·Memᴰ group groups → SoundGroup (units table) group
+
+-- 01: a unit in no group
+abbrev pub Apart : List Group → ℕ → Type 0
+Apart groups unit = (group : Group) → List·Memᴰ group groups → Place (group .members) unit → ⊥
 
 -- 01: a plan of the group drawn from the table
 abbrev pub PlanIn : Table → Group → List ℕ → Type 0
-PlanIn table group xs =
-    Plan (gather (table .lows) (group .members)) (gather (table .highs) (group .members)) (group .total) (group .limits) xs
+PlanIn table group xs = Plan (lowsOf table group) (highsOf table group) (group .total) (group .limits) xs
+
+-- 01: one choice of shares, one a unit, suits all groups at once
+abbrev pub Suits : List Group → Table → List ℕ → Type 0
+Suits groups table xs = (group : Group) → List·Memᴰ group groups → PlanIn table group (gather xs (group .members))
 
 -- every value of each member's range is taken by a plan of the group drawn from the table
 pub record Supported (table : Table) (group : Group) : Type 0 where
-  pub taken : (k : ℕ) → k < length (group .members) → (v : ℕ)
-      → getD (table .lows) (getD (group .members) k 0) 0 ≤ v → v ≤ getD (table .highs) (getD (group .members) k 0) 0
+  pub taken : (k : ℕ) → k < size group → (v : ℕ) → lowOf table (unitOf group k) ≤ v → v ≤ highOf table (unitOf group k)
       → (xs : List ℕ) × PlanIn table group xs × (getD xs k 0 ≡ v)
 
 -- 01: a table at rest: "for each group and each member every value of its range is taken by a plan of that group inside the table"
 pub record Consistent (groups : List Group) (table : Table) : Type 0 where
-  pub ranges : Ranges (table .lows) (table .highs)
+  pub valid : Valid table
   pub each : (group : Group) → List·Memᴰ group groups → Supported table group
+
+-- no table inside this one is at rest
+abbrev pub NoneInside : List Group → Table → Type 0
+NoneInside groups table = (inner : Table) → Consistent groups inner → Inside inner table → ⊥

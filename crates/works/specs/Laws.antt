@@ -1,2 +1,7 @@
 -- The laws of settling, a file for each topic.
 pub mod Members
+pub mod Inside
+pub mod Turns
+pub mod Passes
+pub mod Ends
+pub mod Settled

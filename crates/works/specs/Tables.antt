@@ -4,12 +4,29 @@ use mathlib.Core.Bool.{Bool, _&&_}
 use mathlib.Core.List.{List, [], _∷_}
 use mathlib.Core.Path.{_≡_}
 use lib.ListN.{length, getD, set}
+use Rattle.model.specs.Groups.{Group}
 use Rattle.model.specs.Known.{sameList}
+use Rattle.model.specs.Shares.{Ranges}
 
 -- 01: a table gives each unit of a job one range
 pub record Table : Type 0 where
   pub lows : List ℕ
   pub highs : List ℕ
+
+-- 01: each "with low at most high"
+abbrev pub Valid : Table → Type 0
+Valid table = Ranges (table .lows) (table .highs)
+
+-- the number of units
+abbrev pub units : Table → ℕ
+units table = length (table .lows)
+
+-- a unit's range, units counted from 0
+abbrev pub lowOf : Table → ℕ → ℕ
+lowOf table unit = getD (table .lows) unit 0
+
+abbrev pub highOf : Table → ℕ → ℕ
+highOf table unit = getD (table .highs) unit 0
 
 -- whether two tables have the same ranges
 abbrev pub sameTable : Table → Table → Bool
@@ -21,16 +38,15 @@ widths [] highs = 0
 widths (l ∷ lows) [] = 0
 widths (l ∷ lows) (h ∷ highs) = (h - l) + widths lows highs
 
--- 01: a table lies inside another "if each unit's range lies in that unit's range there"
-pub record Inside (inner outer : Table) : Type 0 where
-  pub units : length (inner .lows) ≡ length (outer .lows)
-  pub highs : length (inner .highs) ≡ length (outer .highs)
-  pub above : (unit : ℕ) → getD (outer .lows) unit 0 ≤ getD (inner .lows) unit 0
-  pub below : (unit : ℕ) → getD (inner .highs) unit 0 ≤ getD (outer .highs) unit 0
+abbrev pub width : Table → ℕ
+width table = widths (table .lows) (table .highs)
 
--- a unit is a member of the group, at some place in its order
-abbrev pub Place : List ℕ → ℕ → Type 0
-Place members unit = (k : ℕ) × (k < length members) × (getD members k 0 ≡ unit)
+-- 01: a table lies inside another "if each unit's range lies in that unit's range there"; past the units all entries are 0
+pub record Inside (inner outer : Table) : Type 0 where
+  pub sameLows : length (inner .lows) ≡ length (outer .lows)
+  pub sameHighs : length (inner .highs) ≡ length (outer .highs)
+  pub above : (unit : ℕ) → lowOf outer unit ≤ lowOf inner unit
+  pub below : (unit : ℕ) → highOf inner unit ≤ highOf outer unit
 
 -- the members' entries, in the group's order
 unfoldable pub gather : List ℕ → List ℕ → List ℕ
@@ -42,3 +58,21 @@ unfoldable pub scatter : List ℕ → List ℕ → List ℕ → List ℕ
 scatter entries [] values = entries
 scatter entries (m ∷ members) [] = entries
 scatter entries (m ∷ members) (v ∷ values) = scatter (set entries m v) members values
+
+-- the ranges of a group's members in a table
+abbrev pub lowsOf : Table → Group → List ℕ
+lowsOf table group = gather (table .lows) (group .members)
+
+abbrev pub highsOf : Table → Group → List ℕ
+highsOf table group = gather (table .highs) (group .members)
+
+-- the number of members, and the unit of member k, counted from 0
+abbrev pub size : Group → ℕ
+size group = length (group .members)
+
+abbrev pub unitOf : Group → ℕ → ℕ
+unitOf group k = getD (group .members) k 0
+
+-- a unit is a member, at some place in the group's order
+abbrev pub Place : List ℕ → ℕ → Type 0
+Place members unit = (k : ℕ) × (k < length members) × (getD members k 0 ≡ unit)

@@ -1,0 +1,101 @@
+-- A pass: it shrinks the table, keeps every consistent table inside, and is quiet only where the table is consistent. Assumes nothing.
+use Prim.Native.Nat.{ℕ, suc}
+use mathlib.Core.List.{List, [], _∷_, List·Memᴰ, List·Memᴰ·head, List·Memᴰ·tail, List·Memᴰ·not-nil, List·Memᴰ·cases-cons}
+use mathlib.Core.Logic.{⊎-elim}
+use mathlib.Core.Path.{_≡_, refl}
+use native.Mathlib.Omega.{arith}
+use Rattle.model.specs.Groups.{Group}
+use Rattle.works.specs.Consistency.{Sound, Apart, Supported, Consistent}
+use Rattle.works.specs.Settling.{Revised, Passed, narrowed, revise, passFrom}
+use Rattle.works.specs.Tables.{Table, Valid, lowOf, highOf, Inside}
+use Rattle.works.specs.Laws.Inside.{inside-refl, inside-trans, inside-both}
+use Rattle.works.specs.Laws.Turns.{turn-inside, turn-valid, turn-other, turn-keeps, turn-quiet}
+
+-- the groups are sound over each table of ranges inside
+pub sound-inside : {groups : List Group} {next table : Table} → Sound groups table → Valid next → Inside next table
+    → Sound groups next
+sound-inside {next} {table} sound valid inside =
+    record { valid = valid; each = λ group member. rw (inside .sameLows) (sound .each group member) }
+
+-- the first of some groups, and the others
+first : {group : Group} {groups : List Group} → List·Memᴰ group (group ∷ groups)
+first = List·Memᴰ·head refl
+
+sound-rest : {group : Group} {groups : List Group} {table : Table} → Sound (group ∷ groups) table → Sound groups table
+sound-rest sound = record { valid = sound .valid; each = λ g member. sound .each g (List·Memᴰ·tail member) }
+
+-- after a turn the other groups are sound
+sound-turn : {group : Group} {groups : List Group} {table middle : Table} → Sound (group ∷ groups) table
+    → revise table group ≡ Revised.revised middle → Sound groups middle
+sound-turn {group} {table} sound turn =
+    sound-inside (sound-rest sound)
+    (turn-valid table group (sound .valid) (sound .each group first) turn)
+    (turn-inside table group (sound .valid) (sound .each group first) turn)
+
+-- what passes leave of a table: a table of ranges inside it, with the same range at each unit in no group
+pub record After (groups : List Group) (next table : Table) : Type 0 where
+  pub inside : Inside next table
+  pub valid : Valid next
+  pub untouched : (unit : ℕ) → Apart groups unit
+      → (lowOf next unit ≡ lowOf table unit) × (highOf next unit ≡ highOf table unit)
+
+-- a pass over some groups that is not stopped is the first group's turn and a pass over the others
+step : (place : ℕ) (group : Group) (groups : List Group) (table next : Table) → passFrom place (group ∷ groups) table ≡ Passed.passed next
+    → (middle : Table) × (revise table group ≡ Revised.revised middle) × (passFrom (suc place) groups middle ≡ Passed.passed next)
+unfolding passFrom
+step place group groups table next e = by-answer (revise table group) refl
+  where
+    by-answer : (answer : Revised) → revise table group ≡ answer
+        → (middle : Table) × (revise table group ≡ Revised.revised middle) × (passFrom (suc place) groups middle ≡ Passed.passed next)
+    by-answer (Revised.revised middle) r = (middle, r, rw (r, passFrom) at e)
+    by-answer (Revised.noPlan number) r =
+        absurd (let stop : Passed.stopped number place ≡ Passed.passed next = rw (r, passFrom) at e in let z : _≡_ {A = ℕ} 0 1 = cc in omega arith)
+
+-- what a pass leaves
+pub pass-after : (place : ℕ) (groups : List Group) (table next : Table) → Sound groups table
+    → passFrom place groups table ≡ Passed.passed next → After groups next table
+pass-after place [] table next sound e = unfold passFrom in
+    let same : next ≡ table = cc in
+    rw same (record { inside = inside-refl table; valid = sound .valid; untouched = λ unit apart. (refl, refl) })
+pass-after place (group ∷ groups) table next sound e =
+    let (middle, turn, rest) = step place group groups table next e in
+    let after : After groups next middle = pass-after (suc place) groups middle next (sound-turn sound turn) rest in
+    record {
+      inside = inside-trans (after .inside) (turn-inside table group (sound .valid) (sound .each group first) turn);
+      valid = after .valid;
+      untouched = λ unit apart.
+          omega (
+            arith,
+            turn-other table group (sound .valid) (sound .each group first) turn unit (apart group first),
+            after .untouched unit (λ g member. apart g (List·Memᴰ·tail member)),
+          );
+    }
+
+-- a pass keeps every consistent table inside
+pub pass-keeps : (place : ℕ) (groups : List Group) (table : Table) → Sound groups table
+    → {inner : Table} → Consistent groups inner → Inside inner table
+    → (next : Table) × (passFrom place groups table ≡ Passed.passed next) × Inside inner next
+unfolding passFrom
+pass-keeps place [] table sound consistent inside = (table, refl, inside)
+pass-keeps place (group ∷ groups) table sound consistent inside =
+    let (turn, kept) =
+    turn-keeps table group (sound .valid) (sound .each group first) (consistent .valid) (consistent .each group first) inside in
+    let (next, rest, last) =
+    pass-keeps (suc place) groups (narrowed table group) (sound-turn sound turn)
+    (record { valid = consistent .valid; each = λ g member. consistent .each g (List·Memᴰ·tail member) }) kept in
+    (next, rw (turn, passFrom) rest, last)
+
+-- a pass that changes nothing met a table that every group supports
+pub pass-quiet : (place : ℕ) (groups : List Group) (table next : Table) → Sound groups table
+    → passFrom place groups table ≡ Passed.passed next → Inside table next
+    → (group : Group) → List·Memᴰ group groups → Supported table group
+pass-quiet place [] table next sound e wide g member = absurd (List·Memᴰ·not-nil member)
+pass-quiet place (group ∷ groups) table next sound e wide g member =
+    let (middle, turn, rest) = step place group groups table next e in
+    let after : After groups next middle = pass-after (suc place) groups middle next (sound-turn sound turn) rest in
+    let same : middle ≡ table =
+    inside-both (turn-inside table group (sound .valid) (sound .each group first) turn) (inside-trans wide (after .inside)) in
+    ⊎-elim
+    (λ here. rw here (turn-quiet table group (sound .valid) (sound .each group first) (rw same at turn)))
+    (λ later. pass-quiet (suc place) groups table next (sound-rest sound) (rw same at rest) wide g later)
+    (List·Memᴰ·cases-cons member)
