@@ -15,3 +15,4 @@ pub mod Narrowing
 pub mod Keeping
 pub mod Ends
 pub mod Turns
+pub mod Walk

@@ -1,0 +1,46 @@
+-- The checks on the lists of one group, in 01's order: 1, 4 for the units, 4 for total and limits, 7. Assumes nothing.
+use Prim.Native.Nat.{ℕ, suc}
+use mathlib.Core.Bool.{Bool, true, false, not, _&&_}
+use mathlib.Core.List.{List, [], _∷_}
+use lib.Dec.{leb, ltb, eqb}
+use lib.ListN.{length}
+use Rattle.model.specs.Shares.{pick, greatestShare}
+use Rattle.group.specs.Sound.{greatestCount}
+use Rattle.group.specs.declared.Check.{Check}
+use Rattle.group.specs.declared.Check.the-variants.{Passed, Failed}
+
+-- the place of the first unit whose low and high fail a test, where the first unit of the lists has the given place; 0 where none fails
+unfoldable pub firstFailing : (ℕ → ℕ → Bool) → ℕ → List ℕ → List ℕ → ℕ
+firstFailing test place [] highs = 0
+firstFailing test place (l ∷ lows) [] = 0
+firstFailing test place (l ∷ lows) (h ∷ highs) = pick (test l h) (firstFailing test (suc place) lows highs) place
+
+-- both ends of a range are shares
+abbrev pub areShares : ℕ → ℕ → Bool
+areShares low high = leb low greatestShare && leb high greatestShare
+
+-- 01, 4: the first unit with a number beyond its range, from 1; 0 where there is none
+abbrev pub firstBeyond : List ℕ → List ℕ → ℕ
+firstBeyond lows highs = firstFailing areShares 1 lows highs
+
+-- 01, 7: the first unit with low above high, from 1; 0 where there is none
+abbrev pub firstCrossed : List ℕ → List ℕ → ℕ
+firstCrossed lows highs = firstFailing leb 1 lows highs
+
+-- 01, 1: lows and highs not empty, of one length, and not over 256, with room for as many numbers
+abbrev pub sized : ℕ → ℕ → ℕ → Bool
+sized count other room = leb 1 count && (eqb count other && (leb count greatestCount && leb count room))
+
+-- a refusal if the test holds, and else what comes after it
+abbrev pub refuseIf : Bool → ℕ → ℕ → Check → Check
+refuseIf true number place next = Failed (record { number = number; place = place })
+refuseIf false number place next = next
+
+-- 01's order for lists of one group, up to 7; whether total and limits are in their ranges is the caller's to say
+unfoldable pub checkLists : List ℕ → List ℕ → ℕ → Bool → Check
+checkLists lows highs room amounts =
+    refuseIf (not (sized (length lows) (length highs) room)) 1 0
+    (refuseIf (ltb 0 (firstBeyond lows highs)) 4 (firstBeyond lows highs)
+    (refuseIf (not amounts) 4 0
+    (refuseIf (ltb 0 (firstCrossed lows highs)) 7 (firstCrossed lows highs)
+    Passed)))

@@ -1,0 +1,87 @@
+// The checks on the lists of one group, in the order of the specification.
+use crate::Check;
+use crate::GREATEST_COUNT;
+use model::Refusal;
+use model::Share;
+ghost use mathlib.Core.Path.{_≡_};
+ghost use lib.ListN.{length};
+ghost use Rattle.group.specs.Checks.{firstBeyond, firstCrossed, sized, refuseIf, checkLists};
+ghost use Rattle.group.specs.declared.Check.the-variants.{Passed};
+ghost use mathlib.Core.Bool.{true};
+
+// The place of the first unit with a number beyond the greatest share; 0 where there is none.
+pub fn first_beyond(lows: &[u64], highs: &[u64]) -> u64
+    requires { ⌜ length (now highs) ≡ length (now lows) ⌝ }
+    ensures { λ r. ⌜ r ≡ firstBeyond (now (lows .entry)) (now (highs .entry)) ⌝ }
+{
+    let mut i: usize = 0;
+    while i < lows.len() {
+        if Share::GREATEST < lows[i] {
+            return i as u64 + 1;
+        }
+        if Share::GREATEST < highs[i] {
+            return i as u64 + 1;
+        }
+        i += 1;
+    }
+    0
+}
+
+// The place of the first unit with low above high; 0 where there is none.
+pub fn first_crossed(lows: &[u64], highs: &[u64]) -> u64
+    requires { ⌜ length (now highs) ≡ length (now lows) ⌝ }
+    ensures { λ r. ⌜ r ≡ firstCrossed (now (lows .entry)) (now (highs .entry)) ⌝ }
+{
+    let mut i: usize = 0;
+    while i < lows.len() {
+        if highs[i] < lows[i] {
+            return i as u64 + 1;
+        }
+        i += 1;
+    }
+    0
+}
+
+// Whether lists of these lengths are those of a group, with room for its shares.
+fn is_sized(count: usize, other: usize, room: usize) -> bool
+    ensures { λ r. ⌜ r ≡ sized count other room ⌝ }
+{
+    if count < 1 {
+        return false;
+    }
+    if count != other {
+        return false;
+    }
+    if GREATEST_COUNT < count {
+        return false;
+    }
+    count <= room
+}
+
+// A refusal by number and place.
+fn refused(number: u64, place: u64) -> Check
+    ensures { λ r. ⌜ r ≡ refuseIf true number place Passed ⌝ }
+{
+    Check::Failed(Refusal { number, place })
+}
+
+// The first refusal of a group's lists, up to 7; amounts says whether total and limits are in their ranges.
+pub fn check_lists(lows: &[u64], highs: &[u64], room: usize, amounts: bool) -> Check
+    ensures { λ r. ⌜ r ≡ checkLists (now (lows .entry)) (now (highs .entry)) room amounts ⌝ }
+{
+    if !is_sized(lows.len(), highs.len(), room) {
+        return refused(1, 0);
+    }
+    let beyond = first_beyond(lows, highs);
+    if 0 < beyond {
+        return refused(4, beyond);
+    }
+    if !amounts {
+        return refused(4, 0);
+    }
+    let crossed = first_crossed(lows, highs);
+    if 0 < crossed {
+        return refused(7, crossed);
+    }
+    Check::Passed
+}

@@ -1,0 +1,94 @@
+// Levelling and narrowing one group on lists.
+use crate::checks::check_lists;
+use crate::plans::figures_at;
+use crate::plans::has_shares;
+use crate::shares::fill_plan;
+use crate::shares::level_at;
+use crate::shares::remainder_at;
+use model::Checked;
+use model::Deviation;
+use model::Refusal;
+use model::Share;
+use model::Spread;
+ghost use mathlib.Core.Path.{_≡_};
+ghost use Prim.Native.Nat.{_≤_};
+ghost use lib.ListN.{length};
+ghost use Rattle.model.specs.Levels.{levelled};
+ghost use Rattle.group.specs.Sound.{Sound};
+ghost use Rattle.group.specs.Levelling.{levelledTo, levelling, planAfter};
+
+pub mod checks;
+pub mod plans;
+pub mod shares;
+
+// A group has at most so many members.
+pub const GREATEST_COUNT: usize = 256;
+
+// A group's total is at most this.
+pub const GREATEST_TOTAL: u64 = 256_000_000;
+
+// Both figures of a group's shares.
+pub struct Figures {
+    pub deviation: Deviation,
+    pub spread: Spread,
+}
+
+// What the checks on a group's lists answer.
+pub enum Check {
+    Passed,
+    Failed(Refusal),
+}
+
+// What levelling a group answers.
+pub enum Levelling {
+    Levelled {
+        level: Share,
+        deviation: Deviation,
+        spread: Spread,
+    },
+    Refused(Refusal),
+}
+
+// Levels sound lists: the levelled shares go to the plan, over its first numbers.
+pub fn level_core(lows: &[u64], highs: &[u64], total: u64, plan: &mut [u64]) -> Levelling
+    requires { ⌜ Sound (now lows) (now highs) ⌝ }
+    requires { ⌜ length (now lows) ≤ length (now plan) ⌝ }
+    ensures { λ r. ⌜ r ≡ levelledTo (now (lows .entry)) (now (highs .entry)) total ⌝ }
+    ensures { λ r. ⌜ now (plan .exit) ≡ planAfter r (levelled (now (lows .entry)) (now (highs .entry)) total) (now (plan .entry)) ⌝ }
+{
+    if !has_shares(lows, highs, total) {
+        return Levelling::Refused(Refusal {
+            number: 11,
+            place: 0,
+        });
+    }
+    let v = level_at(lows, highs, total);
+    let Checked::Valid(level) = Share::new(v) else {
+        return Levelling::Refused(Refusal {
+            number: 11,
+            place: 0,
+        });
+    };
+    let left = remainder_at(lows, highs, total, v);
+    let figures = figures_at(lows, highs, v, left, total);
+    let deviation = figures.deviation;
+    let spread = figures.spread;
+    fill_plan(lows, highs, v, left, plan);
+    Levelling::Levelled {
+        level,
+        deviation,
+        spread,
+    }
+}
+
+// Levels a group on lists.
+pub fn level(lows: &[u64], highs: &[u64], total: u64, plan: &mut [u64]) -> Levelling
+    ensures { λ r. ⌜ r ≡ levelling (now (lows .entry)) (now (highs .entry)) total (length (now (plan .entry))) ⌝ }
+    ensures { λ r. ⌜ now (plan .exit) ≡ planAfter r (levelled (now (lows .entry)) (now (highs .entry)) total) (now (plan .entry)) ⌝ }
+{
+    let check = check_lists(lows, highs, plan.len(), total <= GREATEST_TOTAL);
+    match check {
+        Check::Failed(refusal) => Levelling::Refused(refusal),
+        Check::Passed => level_core(lows, highs, total, plan),
+    }
+}

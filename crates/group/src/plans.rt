@@ -1,0 +1,80 @@
+// The figures of a group's levelled shares, and whether they are within its limits.
+use crate::Figures;
+use crate::shares::clamp;
+use crate::shares::extra;
+use crate::shares::level_at;
+use crate::shares::remainder_at;
+use crate::shares::sum_of;
+use model::Deviation;
+use model::Limits;
+use model::Spread;
+ghost use mathlib.Core.Path.{_≡_};
+ghost use lib.ListN.{length};
+ghost use Rattle.model.specs.Shares.{sum};
+ghost use Rattle.model.specs.Figures.{apart};
+ghost use Rattle.model.specs.Levels.{topped};
+ghost use Rattle.model.specs.Plans.{hasShares, hasPlan};
+ghost use Rattle.group.specs.Sound.{Sound};
+ghost use Rattle.group.specs.Figures.{figuresOf};
+
+// The difference of two numbers.
+fn apart(a: u64, b: u64) -> u64
+    ensures { λ r. ⌜ r ≡ apart a b ⌝ }
+{
+    if a <= b {
+        return b - a;
+    }
+    a - b
+}
+
+// Both figures of the shares at a level, with the copies left over handed out.
+pub fn figures_at(lows: &[u64], highs: &[u64], v: u64, left: u64, total: u64) -> Figures
+    requires { ⌜ Sound (now lows) (now highs) ⌝ }
+    requires { ⌜ sum (topped (now lows) (now highs) v left) ≡ total ⌝ }
+    ensures { λ r. ⌜ r ≡ figuresOf (length (now (lows .entry))) total (topped (now (lows .entry)) (now (highs .entry)) v left) ⌝ }
+{
+    let count = lows.len() as u64;
+    let mut rest = left;
+    let mut deviation: u64 = 0;
+    let mut squares: u64 = 0;
+    let mut i: usize = 0;
+    while i < lows.len() {
+        let more = extra(lows[i], highs[i], v, rest);
+        let share = clamp(lows[i], highs[i], v) + more;
+        rest -= more;
+        deviation += apart(count * share, total);
+        squares += share * share;
+        i += 1;
+    }
+    Figures {
+        deviation: Deviation(deviation),
+        spread: Spread(count * squares - total * total),
+    }
+}
+
+// Whether shares with the total exist.
+pub fn has_shares(lows: &[u64], highs: &[u64], total: u64) -> bool
+    requires { ⌜ Sound (now lows) (now highs) ⌝ }
+    ensures { λ r. ⌜ r ≡ hasShares (now (lows .entry)) (now (highs .entry)) total ⌝ }
+{
+    if total < sum_of(lows) {
+        return false;
+    }
+    total <= sum_of(highs)
+}
+
+// Whether the group has a plan: its levelled shares are within the limits.
+pub fn has_plan(lows: &[u64], highs: &[u64], total: u64, limits: Limits) -> bool
+    requires { ⌜ Sound (now lows) (now highs) ⌝ }
+    ensures { λ r. ⌜ r ≡ hasPlan (now (lows .entry)) (now (highs .entry)) total limits ⌝ }
+{
+    if !has_shares(lows, highs, total) {
+        return false;
+    }
+    let v = level_at(lows, highs, total);
+    let left = remainder_at(lows, highs, total, v);
+    let figures = figures_at(lows, highs, v, left, total);
+    let deviation = figures.deviation;
+    let spread = figures.spread;
+    limits.met(deviation, spread)
+}
