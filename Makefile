@@ -3,7 +3,7 @@
 
 run:
 	@tools/need rt
-	@echo "The proved model of one group is here: crates/model. No program yet."
+	@echo "There is no program yet; crates/model has the proved model of one group."
 
 test:
 	@tools/gate

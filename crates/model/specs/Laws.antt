@@ -8,7 +8,6 @@ pub mod Level
 pub mod Levelled
 pub mod Spread
 pub mod Deviation
-pub mod Walk
 pub mod Plans
 pub mod Search
 pub mod Pinned
@@ -16,3 +15,4 @@ pub mod Narrowing
 pub mod Keeping
 pub mod Ends
 pub mod Turns
+pub mod Walk

@@ -3,9 +3,10 @@ use Prim.Native.Nat.{ℕ}
 use mathlib.Core.Bool.{Bool, true, false}
 use mathlib.Core.List.{List}
 use mathlib.Core.Path.{_≡_, refl}
+use native.Mathlib.Omega.{arith}
 use lib.Dec.{leb}
 use borrow.Author.Tests.{le-leb, leb-true}
-use Rattle.model.specs.Shares.{Ranges, Within, sum}
+use Rattle.model.specs.Shares.{pick, Ranges, Within, sum}
 use Rattle.model.specs.Levels.{levelled}
 use Rattle.model.specs.Plans.{Plan, hasShares, hasPlan, turnOf}
 use Rattle.model.specs.Laws.Levelled.{shares-exist}
@@ -52,3 +53,22 @@ module _ {lows highs : List ℕ} (ranges : Ranges lows highs) (total : ℕ) (lim
   -- a turn is refused 11 exactly where no shares have the total, and 12 exactly where some have and none is a plan
   pub verdict : Verdict lows highs total limits (turnOf lows highs total limits)
   verdict = by-tests (hasShares lows highs total) (hasPlan lows highs total limits) refl refl
+
+-- a turn narrows exactly where its group has a plan
+module _ (lows highs : List ℕ) (total : ℕ) (limits : Limits) where
+  has-shares : hasPlan lows highs total limits ≡ true → hasShares lows highs total ≡ true
+  unfolding hasPlan
+  has-shares found = both-left _ _ found
+
+  pub found-turn : hasPlan lows highs total limits ≡ true → turnOf lows highs total limits ≡ Narrowed
+  unfolding turnOf
+  found-turn found = rw (has-shares found, found)
+
+  pub turn-found : turnOf lows highs total limits ≡ Narrowed → hasPlan lows highs total limits ≡ true
+  unfolding turnOf
+  turn-found turn = chosen (hasShares lows highs total) (hasPlan lows highs total limits) turn
+    where
+      chosen : (shares plan : Bool) → pick shares (pick plan Narrowed (NoPlan 12)) (NoPlan 11) ≡ Narrowed → plan ≡ true
+      chosen true true e = refl
+      chosen true false e = absurd (let z : _≡_ {A = ℕ} 0 1 = cc in omega arith)
+      chosen false plan e = absurd (let z : _≡_ {A = ℕ} 0 1 = cc in omega arith)

@@ -11,7 +11,7 @@ use lib.ListN.{length, getD}
 use lib.Seq.{ext-getD}
 use Rattle.model.specs.Known.{sameList}
 use Rattle.model.specs.Laws.Lists.{sum-le}
-use Rattle.model.specs.Laws.Plans.{both-left, both-right}
+use Rattle.model.specs.Laws.Tests.{both-left, both-right}
 use Rattle.model.specs.Shares.{Ranges, sum}
 use Rattle.works.specs.Tables.{Table, Valid, sameTable, widths, width, Inside}
 

@@ -1,7 +1,7 @@
 -- One group's turn: it shrinks the table, keeps every consistent table inside, and changes nothing only where its group is supported.
 -- Assumes nothing.
 use Prim.Native.Nat.{ℕ, _≤_, _<_}
-use mathlib.Core.Bool.{Bool, true, false}
+use mathlib.Core.Bool.{true}
 use mathlib.Core.List.{List}
 use mathlib.Core.Path.{_≡_, refl, ap, _∙_}
 use native.Mathlib.Nat.{le-refl}
@@ -12,35 +12,16 @@ use Rattle.model.specs.Laws.Keeping as keeping
 use Rattle.model.specs.Laws.Keeping.{plan-widen}
 use Rattle.model.specs.Laws.Lists.{ranges-length, ranges-at, ranges-of}
 use Rattle.model.specs.Laws.Narrowing as narrowing
-use Rattle.model.specs.Laws.Plans.{both-left, plan-found}
-use Rattle.model.specs.Plans.{hasPlan, hasShares, turnOf, narrowedLow, narrowedHigh}
-use Rattle.model.specs.Shares.{Ranges, pick}
-use Rattle.model.specs.declared.Limits.{Limits}
+use Rattle.model.specs.Laws.Plans.{plan-found}
+use Rattle.model.specs.Laws.Turns.{found-turn, turn-found}
+use Rattle.model.specs.Plans.{hasPlan, turnOf, narrowedLow, narrowedHigh}
+use Rattle.model.specs.Shares.{Ranges}
 use Rattle.model.specs.declared.Turn.{Turn}
 use Rattle.model.specs.declared.Turn.the-variants.{Narrowed, NoPlan}
 use Rattle.works.specs.Consistency.{SoundGroup, Supported, PlanIn}
 use Rattle.works.specs.Settling.{Revised, revisedBy, narrowed, revise}
 use Rattle.works.specs.Tables.{Table, Valid, units, lowOf, highOf, Inside, Place, scatter, lowsOf, highsOf, size, unitOf}
 use Rattle.works.specs.Laws.Members.{gather-length, gather-at, scatter-length, scatter-other, scatter-at, place}
-
--- a turn narrows exactly where its group has a plan
-module _ (lows highs : List ℕ) (total : ℕ) (limits : Limits) where
-  has-shares : hasPlan lows highs total limits ≡ true → hasShares lows highs total ≡ true
-  unfolding hasPlan
-  has-shares found = both-left _ _ found
-
-  found-turn : hasPlan lows highs total limits ≡ true → turnOf lows highs total limits ≡ Narrowed
-  unfolding turnOf
-  found-turn found = rw (has-shares found, found)
-
-  turn-found : turnOf lows highs total limits ≡ Narrowed → hasPlan lows highs total limits ≡ true
-  unfolding turnOf
-  turn-found turn = chosen (hasShares lows highs total) (hasPlan lows highs total limits) turn
-    where
-      chosen : (shares plan : Bool) → pick shares (pick plan Narrowed (NoPlan 12)) (NoPlan 11) ≡ Narrowed → plan ≡ true
-      chosen true true e = refl
-      chosen true false e = absurd (let z : _≡_ {A = ℕ} 0 1 = cc in omega arith)
-      chosen false plan e = absurd (let z : _≡_ {A = ℕ} 0 1 = cc in omega arith)
 
 module _ (table : Table) (group : Group) (valid : Valid table) (sound : SoundGroup (units table) group) where
   -- whether the group has a plan, and what narrowing keeps of member k

@@ -1,0 +1,141 @@
+//! Random groups: small ones that can be enumerated, and large ones to the edges of every range.
+
+use crate::answers::{Limit, Limits};
+use crate::enumerate::{deviation, spread, Range};
+use crate::independent::level::{each_levelled, figures, has_shares};
+use crate::independent::{GREATEST_DEVIATION, GREATEST_SHARE, GREATEST_SPREAD, MOST_UNITS};
+use crate::random::Random;
+
+/// One group: its ranges, its total and its limits.
+#[derive(Clone, Debug, PartialEq, Eq)]
+pub struct GroupCase {
+    pub lows: Vec<u64>,
+    pub highs: Vec<u64>,
+    pub total: u64,
+    pub limits: Limits,
+}
+
+impl GroupCase {
+    /// A group of ranges, without limits.
+    pub fn of(ranges: &[Range], total: u64) -> GroupCase {
+        let (lows, highs) = ranges.iter().copied().unzip();
+        GroupCase { lows, highs, total, limits: Limits::ANY }
+    }
+
+    /// The same group under limits.
+    pub fn under(mut self, deviation: Limit, spread: Limit) -> GroupCase {
+        self.limits = Limits { deviation, spread };
+        self
+    }
+
+    /// The group's ranges.
+    pub fn ranges(&self) -> Vec<Range> {
+        self.lows.iter().copied().zip(self.highs.iter().copied()).collect()
+    }
+}
+
+/// A group of 1 to 8 members with few values each, without limits; its total is in reach, or just out of it.
+pub fn small(random: &mut Random) -> GroupCase {
+    let n = random.between(1, 8);
+    let width = match n {
+        1..=3 => 9,
+        4..=5 => 4,
+        _ => 2,
+    };
+    let base = random.one_of(&[0, 0, 0, 7, 499_990, GREATEST_SHARE - 16]);
+    let mut ranges = vec![];
+    for _ in 0..n {
+        let low = base + random.between(0, 7);
+        ranges.push((low, low + random.between(0, width)));
+    }
+    let total = near(random, &ranges);
+    GroupCase::of(&ranges, total)
+}
+
+/// A total between one below the lows' sum and one above the highs'.
+fn near(random: &mut Random, ranges: &[Range]) -> u64 {
+    let lows: u64 = ranges.iter().map(|range| range.0).sum();
+    let highs: u64 = ranges.iter().map(|range| range.1).sum();
+    if random.once_in(8) {
+        return random.one_of(&[lows.saturating_sub(1), lows, highs, highs + 1]);
+    }
+    random.between(lows, highs)
+}
+
+/// Limits at, just below or above the figures of one of the share lists.
+pub fn limits_near(random: &mut Random, lists: &[Vec<u64>], total: u64) -> Limits {
+    if lists.is_empty() {
+        return Limits { deviation: around(random, 4), spread: around(random, 9) };
+    }
+    let first = random.index(lists.len());
+    let second = random.index(lists.len());
+    Limits {
+        deviation: around(random, deviation(&lists[first], total).0),
+        spread: around(random, spread(&lists[second], total).0),
+    }
+}
+
+/// Any, or a limit at or next to a figure.
+fn around(random: &mut Random, figure: u64) -> Limit {
+    match random.between(0, 3) {
+        0 => Limit::Any,
+        1 => Limit::AtMost(figure.saturating_sub(1)),
+        2 => Limit::AtMost(figure + 1),
+        _ => Limit::AtMost(figure),
+    }
+}
+
+/// A group of 1 to `most` members with values to 1,000,000, without limits.
+pub fn large(random: &mut Random, most: usize) -> GroupCase {
+    let n = if random.once_in(3) { most } else { random.between(1, most as u64) as usize };
+    let style = random.between(0, 5);
+    let centre = random.between(0, GREATEST_SHARE);
+    let ranges: Vec<Range> = (0..n).map(|_| large_range(random, style, centre)).collect();
+    let total = near(random, &ranges);
+    GroupCase::of(&ranges, total)
+}
+
+/// A range of one of six styles: free, narrow, near a centre, single values, the edges, all from 0.
+fn large_range(random: &mut Random, style: u64, centre: u64) -> Range {
+    let mut one = |low: u64, high: u64| random.between(low, high.min(GREATEST_SHARE));
+    let (first, second) = match style {
+        0 => (one(0, GREATEST_SHARE), one(0, GREATEST_SHARE)),
+        1 => (centre, one(centre, centre + 10)),
+        2 => (one(centre.saturating_sub(1_000), centre + 1_000), one(centre.saturating_sub(1_000), centre + 1_000)),
+        3 => {
+            let low = one(0, GREATEST_SHARE);
+            (low, one(low, low + 1))
+        }
+        4 => (one(0, 1) * GREATEST_SHARE, one(0, 1) * GREATEST_SHARE),
+        _ => (0, one(0, GREATEST_SHARE)),
+    };
+    (first.min(second), first.max(second))
+}
+
+/// Limits at, just below, or a little above the least figures of a large group.
+pub fn limits_of(random: &mut Random, case: &GroupCase) -> Limits {
+    if !has_shares(&case.lows, &case.highs, case.total) {
+        return Limits { deviation: around(random, 100), spread: around(random, 100) };
+    }
+    let mut shares = [0; MOST_UNITS];
+    each_levelled(&case.lows, &case.highs, case.total, |member, share| shares[member] = share);
+    let (least_deviation, least_spread) = figures(&shares[..case.lows.len()], case.total);
+    Limits {
+        deviation: stretched(random, least_deviation.0, GREATEST_DEVIATION),
+        spread: stretched(random, least_spread.0, GREATEST_SPREAD),
+    }
+}
+
+/// Any, or a limit from just below a figure to twice it and more.
+fn stretched(random: &mut Random, figure: u64, greatest: u64) -> Limit {
+    let most = match random.between(0, 11) {
+        0..=2 => return Limit::Any,
+        3 => figure.saturating_sub(1),
+        4 | 5 => figure,
+        6 => figure + random.between(1, 1_000),
+        7 | 8 => figure + figure / 64 + random.between(0, 1_000_000),
+        9 | 10 => figure + random.between(0, figure),
+        _ => random.between(figure.min(greatest), greatest),
+    };
+    Limit::AtMost(most.min(greatest))
+}

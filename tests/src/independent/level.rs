@@ -1,0 +1,108 @@
+//! Levelling one group: the level, the levelled shares and their figures, and the checks on lists of one group.
+
+use super::{GREATEST_SHARE, GREATEST_TOTAL, MOST_UNITS};
+use crate::answers::{Deviation, Levelled, Refusal, Spread};
+
+/// Levels a group and writes the shares to the plan; numbers past the members, and on a refusal all, keep their values.
+pub fn level(lows: &[u64], highs: &[u64], total: u64, plan: &mut [u64]) -> Result<Levelled, Refusal> {
+    check_shape(lows, highs)?;
+    if plan.len() < lows.len() {
+        return Err(Refusal { number: 1, place: 0 });
+    }
+    check_numbers(lows, highs)?;
+    check_top(total, GREATEST_TOTAL)?;
+    check_order(lows, highs)?;
+    if !has_shares(lows, highs, total) {
+        return Err(Refusal { number: 11, place: 0 });
+    }
+    let level = each_levelled(lows, highs, total, |member, share| plan[member] = share);
+    let (deviation, spread) = figures(&plan[..lows.len()], total);
+    Ok(Levelled { level, deviation, spread })
+}
+
+/// Refusal 1: lists empty, of unequal length, or over 256.
+pub fn check_shape(lows: &[u64], highs: &[u64]) -> Result<(), Refusal> {
+    if lows.is_empty() || lows.len() != highs.len() || lows.len() > MOST_UNITS {
+        return Err(Refusal { number: 1, place: 0 });
+    }
+    Ok(())
+}
+
+/// Refusal 4 for the units in order.
+pub fn check_numbers(lows: &[u64], highs: &[u64]) -> Result<(), Refusal> {
+    match (0..lows.len()).find(|&i| lows[i] > GREATEST_SHARE || highs[i] > GREATEST_SHARE) {
+        Some(i) => Err(Refusal { number: 4, place: i as u64 + 1 }),
+        None => Ok(()),
+    }
+}
+
+/// Refusal 4 for a total or a limit.
+pub fn check_top(number: u64, greatest: u64) -> Result<(), Refusal> {
+    if number > greatest {
+        return Err(Refusal { number: 4, place: 0 });
+    }
+    Ok(())
+}
+
+/// Refusal 7 for the units in order.
+pub fn check_order(lows: &[u64], highs: &[u64]) -> Result<(), Refusal> {
+    match (0..lows.len()).find(|&i| lows[i] > highs[i]) {
+        Some(i) => Err(Refusal { number: 7, place: i as u64 + 1 }),
+        None => Ok(()),
+    }
+}
+
+/// Whether some shares in the ranges add up to the total.
+pub fn has_shares(lows: &[u64], highs: &[u64], total: u64) -> bool {
+    lows.iter().sum::<u64>() <= total && total <= highs.iter().sum()
+}
+
+/// v moved into a range.
+fn clamp(low: u64, high: u64, v: u64) -> u64 {
+    v.min(high).max(low)
+}
+
+/// T(v): the sum of v moved into each range.
+pub fn total_at(lows: &[u64], highs: &[u64], v: u64) -> u64 {
+    lows.iter().zip(highs).map(|(&low, &high)| clamp(low, high, v)).sum()
+}
+
+/// The greatest v from 0 to 1,000,000 with T(v) at most the total, where T(0) is.
+pub fn level_of(lows: &[u64], highs: &[u64], total: u64) -> u64 {
+    let mut level = 0;
+    let mut top = GREATEST_SHARE + 1;
+    while top - level > 1 {
+        let middle = (level + top) / 2;
+        if total_at(lows, highs, middle) <= total {
+            level = middle;
+        } else {
+            top = middle;
+        }
+    }
+    level
+}
+
+/// Gives each member's levelled share in order, and answers the level.
+pub fn each_levelled(lows: &[u64], highs: &[u64], total: u64, mut give: impl FnMut(usize, u64)) -> u64 {
+    let level = level_of(lows, highs, total);
+    let mut left = total - total_at(lows, highs, level);
+    for (member, (&low, &high)) in lows.iter().zip(highs).enumerate() {
+        let more = u64::from(left > 0 && low <= level && level < high);
+        give(member, clamp(low, high, level) + more);
+        left -= more;
+    }
+    level
+}
+
+/// A member's part of the deviation: |n × share − total|.
+pub fn deviation_part(n: u64, share: u64, total: u64) -> u64 {
+    (n * share).abs_diff(total)
+}
+
+/// The deviation and the spread of shares with the total.
+pub fn figures(shares: &[u64], total: u64) -> (Deviation, Spread) {
+    let n = shares.len() as u64;
+    let deviation = shares.iter().map(|&share| deviation_part(n, share, total)).sum();
+    let squares: u64 = shares.iter().map(|&share| share * share).sum();
+    (Deviation(deviation), Spread(n * squares - total * total))
+}

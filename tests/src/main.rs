@@ -1,0 +1,31 @@
+//! Runs all tests. An argument is the seed that the topics draw theirs from.
+
+use danivomel_tests::check::Checks;
+use danivomel_tests::{independent, topics};
+use std::process::ExitCode;
+
+fn main() -> ExitCode {
+    let seed = std::env::args().nth(1).and_then(|word| word.parse().ok()).unwrap_or(1);
+    println!("seed {seed}");
+    let mut checks = Checks::new(seed);
+    independent_planner(&mut checks);
+    checks.end()
+}
+
+/// The independent planner against brute force, so that the judge is judged.
+fn independent_planner(checks: &mut Checks) {
+    let who = "independent";
+    topics::level::run(checks, who, independent::level);
+    topics::lists::run_level(checks, who, independent::level);
+    topics::narrow::run(checks, who, independent::narrow);
+    topics::lists::run_narrow(checks, who, independent::narrow);
+    topics::judge::run(checks);
+    topics::read::run(checks, who, independent::read);
+    topics::lines::run(checks, who, independent::read);
+    topics::calls::run_read(checks, who, independent::read);
+    topics::settle::run(checks, who, independent::settle);
+    topics::tables::run(checks, who, independent::settle);
+    topics::calls::run_settle(checks, who, independent::settle);
+    topics::report::run(checks, who, independent::report);
+    topics::calls::run_report(checks, who, independent::report);
+}

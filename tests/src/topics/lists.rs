@@ -1,0 +1,112 @@
+//! Refusals of the calls on lists of one group: every set of faults at once, so every refusal with every other one
+//! behind it; and every number of every list after each.
+
+use super::faults::{each_combination, fault, Fault};
+use super::marks;
+use crate::answers::{Level, Limit, Limits, Narrow};
+use crate::check::Checks;
+
+/// What a call on lists gets.
+#[derive(Clone, Debug, PartialEq, Eq)]
+struct Lists {
+    lows: Vec<u64>,
+    highs: Vec<u64>,
+    total: u64,
+    limits: Limits,
+    plan: usize,
+}
+
+/// Tries a planner's refusals of levelling.
+pub fn run_level(checks: &mut Checks, who: &str, level: Level) {
+    checks.topic("level, refusals in every combination", who, |topic| {
+        each_combination(&sound(), &level_faults(), |lists, expected| {
+            let mut plan = marks(lists.plan);
+            let found = level(&lists.lows, &lists.highs, lists.total, &mut plan);
+            topic.same(lists, "refusal", found.map(|_| ()), Err(expected));
+            topic.same(lists, "plan list after the refusal", plan, marks(lists.plan));
+        });
+    });
+}
+
+/// Tries a planner's refusals of narrowing.
+pub fn run_narrow(checks: &mut Checks, who: &str, narrow: Narrow) {
+    checks.topic("narrow, refusals in every combination", who, |topic| {
+        each_combination(&sound(), &narrow_faults(), |lists, expected| {
+            let mut after = lists.clone();
+            let found = narrow(&mut after.lows, &mut after.highs, lists.total, lists.limits);
+            topic.same(lists, "refusal", found, Err(expected));
+            topic.same(lists, "lists after the refusal", &after, lists);
+        });
+    });
+}
+
+/// A group without a fault; its least figures are above 1.
+fn sound() -> Lists {
+    Lists { lows: vec![10, 10, 10, 50], highs: vec![20, 30, 40, 60], total: 120, limits: Limits::ANY, plan: 4 }
+}
+
+/// The faults of a levelling in the order in which they are looked for.
+fn level_faults() -> Vec<Fault<Lists>> {
+    let mut faults = shape_faults();
+    faults.push(fault(1, 0, |lists| lists.plan = lists.lows.len().saturating_sub(1)));
+    faults.extend(unit_faults());
+    faults.extend(total_faults());
+    faults.extend(order_faults());
+    faults.extend(reach_faults());
+    faults
+}
+
+/// The faults of a narrowing in the order in which they are looked for.
+fn narrow_faults() -> Vec<Fault<Lists>> {
+    let mut faults = shape_faults();
+    faults.extend(unit_faults());
+    faults.extend(total_faults());
+    faults.push(fault(4, 0, |lists| lists.limits.deviation = Limit::AtMost(100_000_000_001)));
+    faults.push(fault(4, 0, |lists| lists.limits.spread = Limit::AtMost(100_000_000_000_000_001)));
+    faults.extend(order_faults());
+    faults.extend(reach_faults());
+    faults.push(fault(12, 0, |lists| lists.limits.deviation = Limit::AtMost(1)));
+    faults.push(fault(12, 0, |lists| lists.limits.spread = Limit::AtMost(1)));
+    faults
+}
+
+/// Lists empty, of unequal length, or over 256.
+fn shape_faults() -> Vec<Fault<Lists>> {
+    vec![
+        fault(1, 0, |lists| {
+            lists.lows.clear();
+            lists.highs.clear();
+        }),
+        fault(1, 0, |lists| lists.lows.truncate(3)),
+        fault(1, 0, |lists| lists.highs.truncate(2)),
+        fault(1, 0, |lists| {
+            lists.lows.resize(257, 10);
+            lists.highs.resize(257, 20);
+            lists.plan = 257;
+        }),
+    ]
+}
+
+/// Numbers of units beyond their range.
+fn unit_faults() -> Vec<Fault<Lists>> {
+    vec![
+        fault(4, 1, |lists| lists.lows[0] = 1_000_001),
+        fault(4, 2, |lists| lists.highs[1] = u64::MAX),
+        fault(4, 4, |lists| lists.highs[3] = 1_000_001),
+    ]
+}
+
+/// A total beyond its range.
+fn total_faults() -> Vec<Fault<Lists>> {
+    vec![fault(4, 0, |lists| lists.total = 256_000_001), fault(4, 0, |lists| lists.total = u64::MAX)]
+}
+
+/// Lows above highs.
+fn order_faults() -> Vec<Fault<Lists>> {
+    vec![fault(7, 2, |lists| lists.lows[1] = 31), fault(7, 3, |lists| lists.highs[2] = 9)]
+}
+
+/// Totals out of reach.
+fn reach_faults() -> Vec<Fault<Lists>> {
+    vec![fault(11, 0, |lists| lists.total = 79), fault(11, 0, |lists| lists.total = 151)]
+}

@@ -1,0 +1,158 @@
+//! Reports: the worked job whole, reports built from enumeration, what the buffer keeps, and the largest report.
+
+use super::marks;
+use super::read::Shown;
+use super::settle::WORKED;
+use crate::answers::{Refusal, Report, Unsettled};
+use crate::cases::jobs::{print_job, sound, MIDDLE, TINY};
+use crate::check::{Checks, Topic};
+use crate::enumerate::{self, Range};
+use crate::independent::{self, reader::Job};
+
+/// The report of the specification's worked job.
+pub const WORKED_REPORT: &str =
+    "(settled 3)\n(unit 1 5 6)\n(unit 2 4 5)\n(unit 3 3 4)\n(group 1 5 0 0 (plan 5 5))\n(group 2 4 0 0 (plan 4 4))\n";
+
+/// The bytes of the buffer before a call.
+const FILL: u8 = 0xa5;
+
+/// What a call left: its answer, the table and the buffer.
+type Left = (Result<u64, Unsettled>, Vec<Range>, Vec<u8>);
+
+/// Tries a planner's report.
+pub fn run(checks: &mut Checks, who: &str, report: Report) {
+    checks.topic("report, worked job", who, |topic| worked(topic, report));
+    checks.topic("report, built from enumeration", who, |topic| enumerated(topic, report));
+    checks.topic("report, the largest", who, |topic| largest(topic, report));
+}
+
+/// Compares a planner's reports with the independent ones.
+pub fn compare(checks: &mut Checks, who: &str, report: Report) {
+    checks.topic("report, against the independent planner", who, |topic| {
+        for _ in 0..3_000 {
+            let job = sound(&mut topic.random, MIDDLE);
+            let text = print_job(&job);
+            let expected = attempt(independent::report, &text, &table_of(&job), 65_600);
+            let found = attempt(report, &text, &table_of(&job), 65_600);
+            topic.same(&Shown(&text), "answer, table and buffer", found, expected);
+        }
+    });
+}
+
+/// The table of a job's unit lines.
+fn table_of(job: &Job) -> Vec<Range> {
+    job.lows.iter().copied().zip(job.highs.iter().copied()).collect()
+}
+
+/// Reports on a table into a filled buffer.
+fn attempt(report: Report, text: &[u8], opening: &[Range], length: usize) -> Left {
+    let (mut lows, mut highs): (Vec<u64>, Vec<u64>) = opening.iter().copied().unzip();
+    let mut scratch = marks(8 * opening.len());
+    let mut buffer = vec![FILL; length];
+    let answer = report(text, &mut lows, &mut highs, &mut scratch, &mut buffer);
+    (answer, lows.into_iter().zip(highs).collect(), buffer)
+}
+
+/// Checks a whole report: the answer, the settled table, the bytes, and the bytes past them.
+fn check(topic: &mut Topic, report: Report, text: &[u8], opening: &[Range], expected: (&str, Vec<Range>)) {
+    let length = 65_536 + topic.random.index(3);
+    let mut buffer = vec![FILL; length];
+    buffer[..expected.0.len()].copy_from_slice(expected.0.as_bytes());
+    let (answer, table, found) = attempt(report, text, opening, length);
+    let case = Shown(text);
+    topic.same(&case, "answer", answer, Ok(expected.0.len() as u64));
+    topic.same(&case, "settled table", table, expected.1);
+    topic.same(&case, "report", Shown(&found[..expected.0.len()]), Shown(expected.0.as_bytes()));
+    topic.holds(&case, "buffer", found == buffer);
+}
+
+impl PartialEq for Shown<'_> {
+    fn eq(&self, other: &Self) -> bool {
+        self.0 == other.0
+    }
+}
+
+/// The worked job of the specification, and single units.
+fn worked(topic: &mut Topic, report: Report) {
+    check(topic, report, WORKED.as_bytes(), &[(0, 10); 3], (WORKED_REPORT, vec![(5, 6), (4, 5), (3, 4)]));
+    check(topic, report, b"(unit 3 8)\n", &[(3, 8)], ("(settled 1)\n(unit 1 3 8)\n", vec![(3, 8)]));
+    let one = "(settled 2)\n(unit 1 7 7)\n(group 1 1000000 0 0 (plan 7))\n";
+    check(topic, report, b"(unit 3 8)\n(group 7 (dev any) (spread any) (of 1))\n", &[(3, 8)], (one, vec![(7, 7)]));
+}
+
+/// The report that enumeration gives for a job.
+fn by_enumeration(job: &Job, passes: u64, table: &[Range]) -> String {
+    let mut lines = vec![format!("(settled {passes})")];
+    for (unit, (low, high)) in table.iter().enumerate() {
+        lines.push(format!("(unit {} {low} {high})", unit + 1));
+    }
+    for (index, group) in job.groups.iter().enumerate() {
+        let ranges: Vec<Range> = group.members.iter().map(|&unit| table[unit]).collect();
+        let lists = enumerate::share_lists(&ranges, group.total);
+        let plan = enumerate::levelled(&lists, group.total).expect("a settled group has a plan");
+        let level = enumerate::level(&ranges, group.total).expect("a settled group has a plan");
+        let (deviation, spread) = (enumerate::deviation(plan, group.total).0, enumerate::spread(plan, group.total).0);
+        let shares: Vec<String> = plan.iter().map(u64::to_string).collect();
+        lines.push(format!("(group {} {level} {deviation} {spread} (plan {}))", index + 1, shares.join(" ")));
+    }
+    lines.join("\n") + "\n"
+}
+
+/// Small jobs, by enumeration alone.
+fn enumerated(topic: &mut Topic, report: Report) {
+    for _ in 0..3_000 {
+        let job = sound(&mut topic.random, TINY);
+        let text = print_job(&job);
+        let opening = table_of(&job);
+        let mut table = opening.clone();
+        match enumerate::settle(&job.groups, &mut table) {
+            Ok(passes) => check(topic, report, &text, &opening, (&by_enumeration(&job, passes, &table), table)),
+            Err((number, place, passes)) => {
+                refused(
+                    topic,
+                    report,
+                    &text,
+                    &opening,
+                    65_536,
+                    Unsettled { refusal: Refusal { number, place }, passes },
+                );
+            }
+        }
+    }
+}
+
+/// Checks a refusal, and that table and buffer kept their values.
+fn refused(topic: &mut Topic, report: Report, text: &[u8], opening: &[Range], length: usize, expected: Unsettled) {
+    let (answer, table, buffer) = attempt(report, text, opening, length);
+    let kept = table == opening && buffer == vec![FILL; length];
+    topic.same(&Shown(text), "refusal", answer, Err(expected));
+    topic.holds(&Shown(text), "table and buffer after the refusal", kept);
+}
+
+/// 256 units and 4,096 memberships with long numbers: the report fits.
+fn largest(topic: &mut Topic, report: Report) {
+    let range = |unit: usize| if unit.is_multiple_of(2) { (1_000_000, 1_000_000) } else { (100_000, 100_000) };
+    let opening: Vec<Range> = (0..256).map(range).collect();
+    let (lows, highs) = opening.iter().copied().unzip();
+    let mut job = Job { lows, highs, groups: vec![] };
+    for group in 0..64 {
+        let members: Vec<usize> = (0..64).map(|member| (group * 4 + member) % 256).collect();
+        let total = members.iter().map(|&unit| opening[unit].0).sum();
+        job.groups.push(independent::reader::Group { total, limits: crate::answers::Limits::ANY, members });
+    }
+    let text = print_job(&job);
+    let expected = attempt(independent::report, &text, &opening, 65_536);
+    topic.same(&"the largest report", "length", expected.0.map(|length| length > 38_000), Ok(true));
+    let plan: String = (0..32).map(|_| " 1000000 100000").collect();
+    let line = format!("(group 64 1000000 {} {} (plan{plan}))\n", 64 * 64 * 450_000u64, 64u64 * 64 * 450_000 * 450_000);
+    let (answer, table, buffer) = attempt(report, &text, &opening, 65_536);
+    let length = answer.unwrap_or(0) as usize;
+    topic.same(
+        &"the largest report",
+        "last line",
+        Shown(&buffer[length - line.len().min(length)..length]),
+        Shown(line.as_bytes()),
+    );
+    topic.same(&"the largest report", "answer and table", (answer, table), (expected.0, opening));
+    topic.holds(&"the largest report", "bytes", buffer == expected.2);
+}
