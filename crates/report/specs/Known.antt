@@ -8,9 +8,11 @@ use Rattle.model.specs.Levels.{clamped, totalAt, levelBelow, level, topped, rem
 use Rattle.text.specs.Words.{bytes}
 use Rattle.text.specs.Numbers.{digitsOf, printNumber}
 use Rattle.print.specs.Items.{item, items, form, line}
-use Rattle.works.specs.Tables.{gather}
-use Rattle.works.specs.Settling.{settle}
-use Rattle.works.specs.Known.{example, exampleTable, example-settles}
+use Rattle.model.specs.Known.{sameList}
+use Rattle.model.specs.Plans.{hasPlan, turnOf, firstUp, firstDown, narrowedLow, narrowedHigh, tabulate, narrowedLows, narrowedHighs}
+use Rattle.works.specs.Tables.{widths, gather, scatter}
+use Rattle.works.specs.Settling.{narrowed, revise, passFrom, settleFrom, settle}
+use Rattle.works.specs.Known.{example, exampleTable}
 use Rattle.report.specs.Lines.{settledLine, unitLine, groupLine, refusalLine}
 use Rattle.report.specs.Reports.{unitLines, levelledLine, groupLines, reportOf, printed}
 
@@ -27,8 +29,8 @@ exampleReport =
     ∷ [])
 
 pub example-report : printed example (settle example exampleTable) ≡ exampleReport
-unfolding printed reportOf groupLines levelledLine unitLines settledLine unitLine groupLine line form items item flatten printNumber digitsOf exampleReport example gather sum sumOf deviation spread clamped totalAt levelBelow level topped remainder levelled
-example-report = rw example-settles
+unfolding printed reportOf groupLines levelledLine unitLines settledLine unitLine groupLine line form items item flatten printNumber digitsOf exampleReport example exampleTable settle settleFrom passFrom revise narrowed widths gather scatter sameList sum sumOf deviation spread clamped totalAt levelBelow level topped remainder levelled hasPlan turnOf firstUp firstDown narrowedLow narrowedHigh tabulate narrowedLows narrowedHighs
+example-report = refl
 
 -- 01: "A refusal prints one line"
 pub example-refusal : refusalLine 12 1 ≡ bytes "(refused 12 1)\n"

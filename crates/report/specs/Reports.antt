@@ -5,7 +5,7 @@ use lib.ListN.{length}
 use Rattle.model.specs.Figures.{deviation, spread}
 use Rattle.model.specs.Groups.{Group}
 use Rattle.model.specs.Levels.{level, levelled}
-use Rattle.works.specs.Tables.{Table, gather}
+use Rattle.works.specs.Tables.{Table, lowsOf, highsOf}
 use Rattle.works.specs.Settling.{Outcome}
 use Rattle.report.specs.Lines.{settledLine, unitLine, groupLine, refusalLine}
 
@@ -28,7 +28,7 @@ levelledLine number lows highs total =
 unfoldable pub groupLines : ℕ → Table → List Group → List (List ℕ)
 groupLines number table [] = []
 groupLines number table (group ∷ groups) =
-    levelledLine number (gather (table .lows) (group .members)) (gather (table .highs) (group .members)) (group .total)
+    levelledLine number (lowsOf table group) (highsOf table group) (group .total)
     ∷ groupLines (suc number) table groups
 
 -- the report of a settled table and the passes
