@@ -88,3 +88,10 @@ module _ {bytes entry : List ℕ} {start : ℕ} {buffer : List ℕ} {at : ℕ} w
 -- the buffer keeps its length
 pub keeps-length : {bytes entry : List ℕ} {at : ℕ} {exit : List ℕ} {next : ℕ} → Wrote bytes entry at exit next → length exit ≡ length entry
 keeps-length {bytes} {entry} {at} w = ap length (w .holds) ∙ length-written entry at bytes
+
+-- bytes written at the start come first, then what the buffer held past them
+pub from-start : {bytes entry exit : List ℕ} {next : ℕ} → Room entry 0 bytes → Wrote bytes entry 0 exit next
+    → (next ≡ length bytes) × (exit ≡ bytes ++ drop (length bytes) entry)
+from-start {bytes} {entry} room w =
+    let same : 0 + length bytes ≡ length bytes = omega arith in
+    (w .moved ∙ same, w .holds ∙ written-is entry 0 bytes room ∙ ap (λ (k : ℕ). bytes ++ drop k entry) same)

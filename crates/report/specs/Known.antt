@@ -29,10 +29,10 @@ exampleReport =
     ∷ [])
 
 pub example-report : printed example (settle example exampleTable) ≡ exampleReport
-unfolding printed reportOf groupLines levelledLine unitLines settledLine unitLine groupLine line form items item flatten printNumber digitsOf exampleReport example exampleTable settle settleFrom passFrom revise narrowed widths gather scatter sameList sum sumOf deviation spread clamped totalAt levelBelow level topped remainder levelled hasPlan turnOf firstUp firstDown narrowedLow narrowedHigh tabulate narrowedLows narrowedHighs
+unfolding printed reportOf groupLines levelledLine unitLines groupLine line form items item flatten printNumber digitsOf exampleReport example exampleTable settle settleFrom passFrom revise narrowed widths gather scatter sameList sum sumOf deviation spread clamped totalAt levelBelow level topped remainder levelled hasPlan turnOf firstUp firstDown narrowedLow narrowedHigh tabulate narrowedLows narrowedHighs
 example-report = refl
 
 -- 01: "A refusal prints one line"
 pub example-refusal : refusalLine 12 1 ≡ bytes "(refused 12 1)\n"
-unfolding refusalLine line form items item flatten printNumber digitsOf
+unfolding line form items item flatten printNumber digitsOf
 example-refusal = refl

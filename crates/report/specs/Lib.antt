@@ -1,3 +1,4 @@
 pub mod Lines
 pub mod Reports
+pub mod Lengths
 pub mod Known

@@ -7,11 +7,11 @@ use Rattle.text.specs.Words.{bytes}
 use Rattle.print.specs.Items.{form, line}
 
 -- 01: "(settled 3)": the passes
-unfoldable pub settledLine : ℕ → List ℕ
+abbrev pub settledLine : ℕ → List ℕ
 settledLine passes = line (bytes "(settled") (passes ∷ [])
 
 -- 01: "(unit 1 5 6)": "unit number, low, high"
-unfoldable pub unitLine : ℕ → ℕ → ℕ → List ℕ
+abbrev pub unitLine : ℕ → ℕ → ℕ → List ℕ
 unitLine number low high = line (bytes "(unit") (number ∷ low ∷ high ∷ [])
 
 -- 01: "(group 1 5 0 0 (plan 5 5))": "group number, level, deviation, spread, levelled shares"
@@ -20,5 +20,5 @@ groupLine number level deviation spread shares =
     flatten (form (bytes "(group") (number ∷ level ∷ deviation .0 ∷ spread .0 ∷ []) ∷ form (bytes " (plan") shares ∷ bytes "))\n" ∷ [])
 
 -- 01: "(refused 12 1)": "number, place"
-unfoldable pub refusalLine : ℕ → ℕ → List ℕ
+abbrev pub refusalLine : ℕ → ℕ → List ℕ
 refusalLine number place = line (bytes "(refused") (number ∷ place ∷ [])

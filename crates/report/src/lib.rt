@@ -1,1 +1,2 @@
 // The report of a settled job.
+pub mod lines;
