@@ -43,7 +43,7 @@ pub fn put_unit_lines(buffer: &mut [u8], at: usize, lows: &[u64], highs: &[u64])
 }
 
 // Writes a group's line, and hands back the index after it.
-fn put_group_line(
+pub fn put_group_line(
     buffer: &mut [u8],
     at: usize,
     number: u64,
