@@ -2,3 +2,4 @@ pub mod Kinds
 pub mod Parsed
 pub mod Numbers
 pub mod Printed
+pub mod Spots

@@ -48,12 +48,13 @@ unfolding digitsOf
 steps zero n v h k = absurd (omega arith)
 steps (suc m) zero v h k = absurd (omega arith)
 steps (suc m) (suc n) v h k =
-    elim (decLt v 10)
-    [ yes p ↦ rw (digitsOf, lt-ltb v 10 p)
-    | no p ↦
-        let q : 10 ≤ v = omega arith in
-        let f : v / 10 < v = div-lt-self (omega arith) (omega arith) in
-        rw (digitsOf, le-ltb v 10 q, steps m n (v / 10) (omega arith) (omega arith)) ]
+    elim (decLt v 10) [
+      | yes p ↦ rw (digitsOf, lt-ltb v 10 p)
+      | no p ↦
+          let q : 10 ≤ v = omega arith in
+          let f : v / 10 < v = div-lt-self (omega arith) (omega arith) in
+          rw (digitsOf, le-ltb v 10 q, steps m n (v / 10) (omega arith) (omega arith))
+    ]
 
 -- a number of one digit
 pub print-one : (v : ℕ) → v < 10 → printNumber v ≡ (48 + v) ∷ []
@@ -83,15 +84,16 @@ printed-goes-on : (n v : ℕ) (s : List ℕ) → v < n → 0 < v → number (pri
 unfolding number
 printed-goes-on zero v s h p = absurd (omega arith)
 printed-goes-on (suc n) v s h p =
-    elim (decLt v 10)
-    [ yes q ↦ rw (print-one v q, byte-digit (48 + v) (omega arith) (omega arith), ne-eqb (48 + v) 48 (λ e. omega arith)) (ap (λ (n : ℕ). digits n s) (omega arith))
-    | no q ↦
-        let f : v / 10 < v = div-lt-self (omega arith) (omega arith) in
-        let e : v / 10 * 10 + (48 + v % 10 - 48) ≡ v = omega arith in
-        rw (print-more v (omega arith), append-assoc)
-        (printed-goes-on n (v / 10) ((48 + v % 10) ∷ s) (omega arith) (omega arith)
-        ∙ go-on (v / 10) (48 + v % 10) s (omega arith) (omega arith)
-        ∙ ap (λ (n : ℕ). digits n s) e) ]
+    elim (decLt v 10) [
+      | yes q ↦ rw (print-one v q, byte-digit (48 + v) (omega arith) (omega arith), ne-eqb (48 + v) 48 (λ e. omega arith)) (ap (λ (n : ℕ). digits n s) (omega arith))
+      | no q ↦
+          let f : v / 10 < v = div-lt-self (omega arith) (omega arith) in
+          let e : v / 10 * 10 + (48 + v % 10 - 48) ≡ v = omega arith in
+          rw (print-more v (omega arith), append-assoc)
+          (printed-goes-on n (v / 10) ((48 + v % 10) ∷ s) (omega arith) (omega arith)
+          ∙ go-on (v / 10) (48 + v % 10) s (omega arith) (omega arith)
+          ∙ ap (λ (n : ℕ). digits n s) e)
+    ]
 
 -- no digit stands first
 unfoldable pub Ends : List ℕ → Type 0
