@@ -10,7 +10,7 @@ use native.Mathlib.Decide.{decLt, decLe, ℕ-discrete}
 use borrow.Author.Tests.{le-leb, lt-leb, ne-eqb, eq-eqb, lt-ltb, le-ltb, leb-true, eqb-true, eqb-false}
 use Rattle.model.specs.Shares.{pick}
 use Rattle.text.specs.Kinds.{kindOf}
-use Rattle.text.specs.Parsed.{Parsed, parsed, failed, mapped}
+use Rattle.text.specs.Parsed.{Parsed, parsed, failed, mapped, word}
 use Rattle.text.specs.Numbers.{isDigit, digits, number, digitsOf, printNumber, most, held}
 use Rattle.text.specs.declared.Kind.{Kind}
 use Rattle.text.specs.declared.Kind.the-variants.{Opening, Closing, Space, Digit, Letter, Foreign}
@@ -140,3 +140,15 @@ pub printed-number : (s : List ℕ) (w : ℕ) (t : List ℕ) → number s ≡ pa
 unfolding number
 printed-number [] w t h = absurd (let z : _≡_ {A = ℕ} 0 1 = cc in omega arith)
 printed-number (b ∷ s) w t h = first-digit b s w t (isDigit (kindOf b)) refl (eqb b 48) refl h
+
+-- where a number stands, no word with another first byte than a digit does
+pub number-not-word : (w : ℕ) (ws : List ℕ) (s : List ℕ) (v : ℕ) (t : List ℕ) → isDigit (kindOf w) ≡ false → number s ≡ parsed v t → word (w ∷ ws) s ≡ failed
+unfolding number word
+number-not-word w ws [] v t n h = refl
+number-not-word w ws (b ∷ s) v t n h =
+    let e = is-there (isDigit (kindOf b)) (pick (eqb b 48) (parsed 0 s) (digits (b - 48) s)) h in
+    rw (ne-eqb w b (λ q. let z : true ≡ false = sym e ∙ ap (λ (x : ℕ). isDigit (kindOf x)) (sym q) ∙ n in let y : _≡_ {A = ℕ} 0 1 = cc in omega arith))
+  where
+    is-there : (d : Bool) (p : Parsed ℕ) → pick d p failed ≡ parsed v t → d ≡ true
+    is-there true p h = refl
+    is-there false p h = absurd (let z : _≡_ {A = ℕ} 0 1 = cc in omega arith)
