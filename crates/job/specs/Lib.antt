@@ -1,2 +1,5 @@
 pub mod Form
 pub mod Spelling
+pub mod Job
+pub mod Verdicts
+pub mod Held

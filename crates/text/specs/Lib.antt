@@ -3,3 +3,4 @@ pub mod Parsed
 pub mod Numbers
 pub mod Printed
 pub mod Spots
+pub mod Tests

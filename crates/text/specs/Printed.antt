@@ -9,19 +9,12 @@ use native.Mathlib.Nat.{div-add-mod', mod-lt, div-lt-self}
 use native.Mathlib.Decide.{decLt, decLe, ℕ-discrete}
 use borrow.Author.Tests.{le-leb, lt-leb, ne-eqb, eq-eqb, lt-ltb, le-ltb, leb-true, eqb-true, eqb-false}
 use Rattle.model.specs.Shares.{pick}
+use Rattle.text.specs.Tests.{and-left, and-right}
 use Rattle.text.specs.Kinds.{kindOf}
 use Rattle.text.specs.Parsed.{Parsed, parsed, failed, mapped, word}
 use Rattle.text.specs.Numbers.{isDigit, digits, number, digitsOf, printNumber, most, held}
 use Rattle.text.specs.declared.Kind.{Kind}
 use Rattle.text.specs.declared.Kind.the-variants.{Opening, Closing, Space, Digit, Letter, Foreign}
-
-and-left : (a b : Bool) → a && b ≡ true → a ≡ true
-and-left true b h = refl
-and-left false b h = h
-
-and-right : (a b : Bool) → a && b ≡ true → b ≡ true
-and-right true b h = h
-and-right false b h = cc
 
 by-tests : (o c s d l : Bool) → isDigit (pick o Opening (pick c Closing (pick s Space (pick d Digit (pick l Letter Foreign))))) ≡ true → d ≡ true
 by-tests true c s d l h = cc
