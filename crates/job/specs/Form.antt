@@ -6,7 +6,7 @@ use Rattle.model.specs.declared.Limit.{Limit}
 use Rattle.model.specs.declared.Limit.the-variants.{Any, AtMost}
 use Rattle.model.specs.declared.Limits.{Limits}
 use Rattle.text.specs.Parsed.{Parsed, parsed, failed, andThen, mapped, orElse, word}
-use Rattle.text.specs.Numbers.{number, printNumber}
+use Rattle.text.specs.Numbers.{numberAfter, printNumber}
 
 -- 01: "A unit line holds low, high"
 pub record UnitLine : Type 0 where
@@ -81,29 +81,24 @@ printLine (group g) =
     ++ (printLimit (g .limits .spread)
     ++ (membersOpening ++ (printMembers (g .first ∷ g .others) ++ groupEnding)))))))
 
--- a number, held by a function of its value: the code holds numbers above every limit alike
-unfoldable pub numberAs : (ℕ → ℕ) → List ℕ → Parsed ℕ
-numberAs f s = mapped f (number s)
+-- a word and the number after it, held by a function of its value: the code holds numbers above every limit alike
+unfoldable pub numberAs : (ℕ → ℕ) → List ℕ → List ℕ → Parsed ℕ
+numberAs f w s = mapped f (numberAfter w s)
 
-unfoldable pub limitAs : (ℕ → ℕ) → List ℕ → Parsed Limit
-limitAs f s = orElse (mapped (λ w. Any) (word anyWord s)) (mapped AtMost (numberAs f s))
+-- a word and the limit after it
+unfoldable pub limitAs : (ℕ → ℕ) → List ℕ → List ℕ → Parsed Limit
+limitAs f w s = andThen (word w s) (λ u s. orElse (mapped (λ u. Any) (word anyWord s)) (mapped AtMost (numberAs f [] s)))
 
 unfoldable pub unitAs : (ℕ → ℕ) → List ℕ → Parsed UnitLine
 unitAs f s =
-    andThen (word unitOpening s)
-    (λ w s. andThen (numberAs f s)
-    (λ low s. andThen (word space s)
-    (λ w s. andThen (numberAs f s)
-    (λ high s. mapped (λ w. record { low = low; high = high }) (word unitEnding s)))))
-
--- one member: a space and a number
-unfoldable pub memberAs : (ℕ → ℕ) → List ℕ → Parsed ℕ
-memberAs f s = andThen (word space s) (λ w s. numberAs f s)
+    andThen (numberAs f unitOpening s)
+    (λ low s. andThen (numberAs f space s)
+    (λ high s. mapped (λ u. record { low = low; high = high }) (word unitEnding s)))
 
 -- as many members as stand there, at most n
 unfoldable pub membersAs : (ℕ → ℕ) → ℕ → List ℕ → Parsed (List ℕ)
 membersAs f zero s = parsed [] s
-membersAs f (suc n) s = orElse (andThen (memberAs f s) (λ m s. mapped (λ ms. m ∷ ms) (membersAs f n s))) (parsed [] s)
+membersAs f (suc n) s = orElse (andThen (numberAs f space s) (λ m s. mapped (λ ms. m ∷ ms) (membersAs f n s))) (parsed [] s)
 
 -- a group line up to its members
 pub record Head : Type 0 where
@@ -112,13 +107,10 @@ pub record Head : Type 0 where
 
 unfoldable pub headAs : (ℕ → ℕ) → List ℕ → Parsed Head
 headAs f s =
-    andThen (word groupOpening s)
-    (λ w s. andThen (numberAs f s)
-    (λ total s. andThen (word deviationOpening s)
-    (λ w s. andThen (limitAs f s)
-    (λ deviation s. andThen (word spreadOpening s)
-    (λ w s. andThen (limitAs f s)
-    (λ spread s. mapped (λ w. record { total = total; limits = record { deviation = deviation; spread = spread } }) (word membersOpening s)))))))
+    andThen (numberAs f groupOpening s)
+    (λ total s. andThen (limitAs f deviationOpening s)
+    (λ deviation s. andThen (limitAs f spreadOpening s)
+    (λ spread s. mapped (λ u. record { total = total; limits = record { deviation = deviation; spread = spread } }) (word membersOpening s))))
 
 -- with its members, one or more
 unfoldable pub grouped : Head → List ℕ → List ℕ → Parsed GroupLine
@@ -130,7 +122,7 @@ groupAs f s =
     andThen (headAs f s)
     (λ h s. andThen (membersAs f (length s) s)
     (λ ms s. andThen (word groupEnding s)
-    (λ w s. grouped h ms s)))
+    (λ u s. grouped h ms s)))
 
 unfoldable pub lineAs : (ℕ → ℕ) → List ℕ → Parsed Line
 lineAs f s = orElse (mapped unit (unitAs f s)) (mapped group (groupAs f s))

@@ -13,8 +13,8 @@ use Rattle.model.specs.declared.Limit.{Limit}
 use Rattle.model.specs.declared.Limit.the-variants.{Any, AtMost}
 use Rattle.model.specs.declared.Limits.{Limits}
 use Rattle.text.specs.Parsed.{Parsed, parsed, failed, andThen, mapped, orElse, word, andThen-mapped, mapped-andThen, andThen-same, mapped-orElse}
-use Rattle.text.specs.Numbers.{number, held, most}
-use Rattle.job.specs.Form.{UnitLine, GroupLine, Line, unit, group, unitOpening, space, unitEnding, groupOpening, deviationOpening, spreadOpening, membersOpening, groupEnding, anyWord, numberAs, limitAs, unitAs, memberAs, membersAs, Head, headAs, grouped, groupAs, lineAs, line}
+use Rattle.text.specs.Numbers.{numberAfter, held, most}
+use Rattle.job.specs.Form.{UnitLine, GroupLine, Line, unit, group, unitOpening, space, unitEnding, groupOpening, deviationOpening, spreadOpening, membersOpening, groupEnding, anyWord, numberAs, limitAs, unitAs, membersAs, Head, headAs, grouped, groupAs, lineAs, line}
 use Rattle.job.specs.Job.{Job, unitVerdict, headVerdict, membersVerdict, verdict, named, allNamed, add, stepOn, judged, memberships, greatestTotal, greatestDeviation, greatestSpread, limitUpTo, unless, distinct, first}
 use Rattle.text.specs.Tests.{and-left, and-right}
 use Rattle.job.specs.Verdicts.{unit-good, head-good, members-good, first-zero}
@@ -58,45 +58,37 @@ abbrev same : ℕ → ℕ
 same v = v
 
 module _ (f : ℕ → ℕ) where
-  number-by : (s : List ℕ) → numberAs f s ≡ mapped f (numberAs same s)
+  number-by : (w s : List ℕ) → numberAs f w s ≡ mapped f (numberAs same w s)
   unfolding numberAs
-  number-by s = mapped-twice same f (number s)
+  number-by w s = mapped-twice same f (numberAfter w s)
 
-  limit-by : (s : List ℕ) → limitAs f s ≡ mapped (limitBy f) (limitAs same s)
+  limit-by : (w s : List ℕ) → limitAs f w s ≡ mapped (limitBy f) (limitAs same w s)
   unfolding limitAs
-  limit-by s =
-      rw (mapped-orElse, ← mapped-twice (λ w. Any) (limitBy f) (word anyWord s), ← mapped-twice AtMost (limitBy f) (numberAs same s), number-by s) (ap (λ p. orElse (mapped (λ w. Any) (word anyWord s)) p) (sym (mapped-twice f AtMost (numberAs same s))))
+  limit-by w s =
+      carried (λ u. u) (limitBy f) (word w s) _ _ (mapped-same _)
+      (λ u s. rw (mapped-orElse, ← mapped-twice (λ u. Any) (limitBy f) (word anyWord s), ← mapped-twice AtMost (limitBy f) (numberAs same [] s), number-by [] s) (ap (λ p. orElse (mapped (λ u. Any) (word anyWord s)) p) (sym (mapped-twice f AtMost (numberAs same [] s)))))
 
   unit-by : (s : List ℕ) → unitAs f s ≡ mapped (unitBy f) (unitAs same s)
   unfolding unitAs
   unit-by s =
-      carried (λ w. w) (unitBy f) (word unitOpening s) _ _ (mapped-same _)
-      (λ w s. carried f (unitBy f) (numberAs same s) _ _ (number-by s)
-      (λ low s. carried (λ w. w) (unitBy f) (word space s) _ _ (mapped-same _)
-      (λ w s. carried f (unitBy f) (numberAs same s) _ _ (number-by s)
-      (λ high s. mapped-twice (λ w. record { low = low; high = high }) (unitBy f) (word unitEnding s)))))
-
-  member-by : (s : List ℕ) → memberAs f s ≡ mapped f (memberAs same s)
-  unfolding memberAs
-  member-by s = carried (λ w. w) f (word space s) _ _ (mapped-same _) (λ w s. number-by s)
+      carried f (unitBy f) (numberAs same unitOpening s) _ _ (number-by unitOpening s)
+      (λ low s. carried f (unitBy f) (numberAs same space s) _ _ (number-by space s)
+      (λ high s. mapped-twice (λ u. record { low = low; high = high }) (unitBy f) (word unitEnding s)))
 
   members-by : (n : ℕ) (s : List ℕ) → membersAs f n s ≡ mapped (map f) (membersAs same n s)
   unfolding membersAs mapped
   members-by zero s = refl
   members-by (suc n) s =
-      let one = carried f (map f) (memberAs same s) (λ m s. mapped (λ ms. m ∷ ms) (membersAs same n s)) (λ m s. mapped (λ ms. m ∷ ms) (membersAs f n s)) (member-by s) (λ m s. rw (members-by n s) (sym (mapped-twice (map f) (λ ms. f m ∷ ms) (membersAs same n s)) ∙ mapped-twice (λ ms. m ∷ ms) (map f) (membersAs same n s))) in
+      let one = carried f (map f) (numberAs same space s) (λ m s. mapped (λ ms. m ∷ ms) (membersAs same n s)) (λ m s. mapped (λ ms. m ∷ ms) (membersAs f n s)) (number-by space s) (λ m s. rw (members-by n s) (sym (mapped-twice (map f) (λ ms. f m ∷ ms) (membersAs same n s)) ∙ mapped-twice (λ ms. m ∷ ms) (map f) (membersAs same n s))) in
       ap (λ p. orElse p (parsed [] s)) one ∙ sym (mapped-orElse (map f) _ (parsed [] s))
 
   head-by : (s : List ℕ) → headAs f s ≡ mapped (headBy f) (headAs same s)
   unfolding headAs
   head-by s =
-      carried (λ w. w) (headBy f) (word groupOpening s) _ _ (mapped-same _)
-      (λ w s. carried f (headBy f) (numberAs same s) _ _ (number-by s)
-      (λ total s. carried (λ w. w) (headBy f) (word deviationOpening s) _ _ (mapped-same _)
-      (λ w s. carried (limitBy f) (headBy f) (limitAs same s) _ _ (limit-by s)
-      (λ deviation s. carried (λ w. w) (headBy f) (word spreadOpening s) _ _ (mapped-same _)
-      (λ w s. carried (limitBy f) (headBy f) (limitAs same s) _ _ (limit-by s)
-      (λ spread s. mapped-twice (λ w. record { total = total; limits = record { deviation = deviation; spread = spread } }) (headBy f) (word membersOpening s)))))))
+      carried f (headBy f) (numberAs same groupOpening s) _ _ (number-by groupOpening s)
+      (λ total s. carried (limitBy f) (headBy f) (limitAs same deviationOpening s) _ _ (limit-by deviationOpening s)
+      (λ deviation s. carried (limitBy f) (headBy f) (limitAs same spreadOpening s) _ _ (limit-by spreadOpening s)
+      (λ spread s. mapped-twice (λ u. record { total = total; limits = record { deviation = deviation; spread = spread } }) (headBy f) (word membersOpening s))))
 
   grouped-by : (h : Head) (ms s : List ℕ) → grouped (headBy f h) (map f ms) s ≡ mapped (groupBy f) (grouped h ms s)
   unfolding grouped mapped

@@ -1,1 +1,2 @@
 // Reading a job text.
+pub mod lines;

@@ -5,7 +5,7 @@ use mathlib.Core.List.{List, [], _∷_, _++_}
 use mathlib.Core.Logic.{_⊎_, inl, inr}
 use mathlib.Core.Path.{_≡_, refl}
 use native.Mathlib.Omega.{arith}
-use borrow.Author.Tests.{eqb-true}
+use borrow.Author.Tests.{eqb-true, eq-eqb}
 use lib.Dec.{eqb}
 use Rattle.model.specs.Shares.{pick}
 
@@ -80,3 +80,9 @@ word-parsed (w ∷ ws) (b ∷ s) {u} {r} h = by-byte (eqb w b) refl (λ k. word-
     by-byte : (t : Bool) → eqb w b ≡ t → (word ws s ≡ parsed u r → s ≡ ws ++ r) → pick t (word ws s) failed ≡ parsed u r → b ∷ s ≡ w ∷ (ws ++ r)
     by-byte true e again h = rw (eqb-true w b e, again h)
     by-byte false e again h = absurd (let z : _≡_ {A = ℕ} 0 1 = cc in omega arith)
+
+-- a word reads as itself
+pub word-own : (w s : List ℕ) → word w (w ++ s) ≡ parsed tt s
+unfolding word
+word-own [] s = refl
+word-own (w ∷ ws) s = rw (eq-eqb w w refl) (word-own ws s)

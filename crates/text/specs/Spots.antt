@@ -119,3 +119,7 @@ digit-inside text at d h =
           let e : firstDigit [] ≡ Is d = rw (drop-of-length-le text l) at h in
           absurd (let z : _≡_ {A = ℕ} 0 1 = cc in omega arith)
     ]
+
+-- what an answer stands for, once the answer is known
+pub told : {A B : Type 0} (f : A → B) {r k : A} {p : B} → f r ≡ p → r ≡ k → p ≡ f k
+told f h e = sym h ∙ ap f e

@@ -4,7 +4,7 @@ ghost use Prim.Native.Nat.{_+_, _*_, _≤_, _<_};
 ghost use lib.ListN.{length, drop};
 ghost use Rattle.text.specs.Kinds.{kindOf};
 ghost use Rattle.text.specs.Parsed.{word, mapped};
-ghost use Rattle.text.specs.Numbers.{number, held, most};
+ghost use Rattle.text.specs.Numbers.{number, numberAfter, held, most};
 ghost use Rattle.text.specs.Spots.{stepped, counted, firstDigit, digitsHeld};
 
 // The kind of a byte, by its number.
@@ -131,5 +131,15 @@ impl Spot {
             i += 1;
         }
         Step::To(Spot { at })
+    }
+
+    // Reads a word, and a number after it.
+    pub fn number_after(self, text: &[u8], bytes: &[u8]) -> Number
+        ensures { λ r. ⌜ counted (now (text .entry)) r ≡ mapped held (numberAfter (now (bytes .entry)) (drop (self .at) (now (text .entry)))) ⌝ }
+    {
+        let Step::To(spot) = self.word(text, bytes) else {
+            return Number::Missing;
+        };
+        spot.number(text)
     }
 }
