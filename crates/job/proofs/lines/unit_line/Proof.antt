@@ -1,6 +1,9 @@
+-- Item by item, each read where the one before ended. Assumes nothing.
+use mathlib.Core.Path.{_≡_}
 use borrow.Author.Needs.{needs}
-use native.Mathlib.Omega.{arith}
-use borrow.Author.Needs.{needs}
+use Rattle.text.specs.Parsed.{andThen, mapped}
+use Rattle.text.specs.Spots.{stepped, counted, told}
+use Rattle.job.specs.Form.{numberAs, unitAs}
 use Rattle.job.proofs.lines.unit_line.Statement.{statement}
 use Rattle.job.proofs.lines.unit_line.Tie as tie
 use Rattle.job.proofs.lines.unit_line.Reads as reads
@@ -21,7 +24,11 @@ enum-told : tie.Need-enum-told
 enum-told c = search needs
 
 returns : tie.Need-returns
-returns c = search needs
+unfolding unitAs numberAs andThen mapped
+returns c =
+    let n₁ = c .before .before in
+    let text = n₁ .before .before .before .args .text .now in
+    rw (told (counted text) (n₁ .number-after .ensures) (c .enum-told .given .1))
 
 slice-aggregate-number-after-2 : tie.Need-slice-aggregate-number-after-2
 slice-aggregate-number-after-2 c = search needs
@@ -36,7 +43,13 @@ enum-told-2 : tie.Need-enum-told-2
 enum-told-2 c = search needs
 
 returns-2 : tie.Need-returns-2
-returns-2 c = search needs
+unfolding unitAs numberAs andThen mapped
+returns-2 c =
+    let n₂ = c .before .before in
+    let l₁ = n₂ .before .before .before in
+    let n₁ = l₁ .before .before in
+    let text = n₁ .before .before .before .args .text .now in
+    rw (told (counted text) (n₁ .number-after .ensures) (l₁ .low .given .1), told (counted text) (n₂ .number-after2 .ensures) (c .enum-told2 .given .1))
 
 slice-aggregate-word : tie.Need-slice-aggregate-word
 slice-aggregate-word c = search needs
@@ -51,10 +64,27 @@ enum-told-3 : tie.Need-enum-told-3
 enum-told-3 c = search needs
 
 returns-3 : tie.Need-returns-3
-returns-3 c = search needs
+unfolding unitAs numberAs andThen mapped
+returns-3 c =
+    let w₃ = c .before .before in
+    let h₂ = w₃ .before .before .before in
+    let n₂ = h₂ .before .before in
+    let l₁ = n₂ .before .before .before in
+    let n₁ = l₁ .before .before in
+    let text = n₁ .before .before .before .args .text .now in
+    rw (told (counted text) (n₁ .number-after .ensures) (l₁ .low .given .1), told (counted text) (n₂ .number-after2 .ensures) (h₂ .high .given .1), told (stepped text) (w₃ .word .ensures) (c .enum-told3 .given .1))
 
 returns-4 : tie.Need-returns-4
-returns-4 c = search needs
+unfolding unitAs numberAs andThen mapped
+returns-4 c =
+    let s₃ = c .before in
+    let w₃ = s₃ .before .before in
+    let h₂ = w₃ .before .before .before in
+    let n₂ = h₂ .before .before in
+    let l₁ = n₂ .before .before .before in
+    let n₁ = l₁ .before .before in
+    let text = n₁ .before .before .before .args .text .now in
+    rw (told (counted text) (n₁ .number-after .ensures) (l₁ .low .given .1), told (counted text) (n₂ .number-after2 .ensures) (h₂ .high .given .1), told (stepped text) (w₃ .word .ensures) (s₃ .spot .given .1))
 
 pub unit-line-spec : {M : Type 1} → statement M
 unit-line-spec =
