@@ -5,6 +5,7 @@ use lib.ListN.{length}
 use Rattle.model.specs.declared.Limit.{Limit}
 use Rattle.model.specs.declared.Limit.the-variants.{Any, AtMost}
 use Rattle.model.specs.declared.Limits.{Limits}
+use Rattle.job.specs.declared.lines.Head.{Head}
 use Rattle.text.specs.Parsed.{Parsed, parsed, failed, andThen, mapped, orElse, word}
 use Rattle.text.specs.Numbers.{numberAfter, printNumber}
 
@@ -101,10 +102,6 @@ membersAs f zero s = parsed [] s
 membersAs f (suc n) s = orElse (andThen (numberAs f space s) (λ m s. mapped (λ ms. m ∷ ms) (membersAs f n s))) (parsed [] s)
 
 -- a group line up to its members
-pub record Head : Type 0 where
-  pub total : ℕ
-  pub limits : Limits
-
 unfoldable pub headAs : (ℕ → ℕ) → List ℕ → Parsed Head
 headAs f s =
     andThen (numberAs f groupOpening s)

@@ -9,6 +9,9 @@ use Rattle.job.specs.declared.lines.UnitRead.{UnitRead}
 use Rattle.job.specs.declared.lines.UnitRead.the-variants as unit-read
 use Rattle.job.specs.declared.lines.LimitRead.{LimitRead}
 use Rattle.job.specs.declared.lines.LimitRead.the-variants as limit-read
+use Rattle.job.specs.declared.lines.Head.{Head}
+use Rattle.job.specs.declared.lines.HeadRead.{HeadRead}
+use Rattle.job.specs.declared.lines.HeadRead.the-variants as head-read
 
 -- a unit line and the spot after it
 abbrev pub unitSeen : List ℕ → UnitRead → Parsed UnitLine
@@ -19,3 +22,8 @@ unitSeen text unit-read.Missing = failed
 abbrev pub limitSeen : List ℕ → LimitRead → Parsed Limit
 limitSeen text (limit-read.Is limit spot) = parsed limit (drop (spot .at) text)
 limitSeen text limit-read.Missing = failed
+
+-- a group line's head and the spot after it
+abbrev pub headSeen : List ℕ → HeadRead → Parsed Head
+headSeen text (head-read.Is head spot) = parsed head (drop (spot .at) text)
+headSeen text head-read.Missing = failed

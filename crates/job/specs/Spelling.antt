@@ -13,7 +13,8 @@ use Rattle.model.specs.declared.Limits.{Limits}
 use Rattle.text.specs.Parsed.{Parsed, parsed, failed, andThen, mapped, orElse, word, then-parsed, mapped-parsed, either-parsed, word-parsed, word-own}
 use Rattle.text.specs.Numbers.{numberAfter, printNumber}
 use Rattle.text.specs.Printed.{Ends, number-printed, printed-number, number-not-word}
-use Rattle.job.specs.Form.{UnitLine, GroupLine, Line, unit, group, unitOpening, unitEnding, groupOpening, deviationOpening, spreadOpening, membersOpening, anyWord, space, groupEnding, printLimit, printMembers, printLine, numberAs, limitAs, unitAs, membersAs, Head, headAs, grouped, groupAs, lineAs, line}
+use Rattle.job.specs.declared.lines.Head.{Head}
+use Rattle.job.specs.Form.{UnitLine, GroupLine, Line, unit, group, unitOpening, unitEnding, groupOpening, deviationOpening, spreadOpening, membersOpening, anyWord, space, groupEnding, printLimit, printMembers, printLine, numberAs, limitAs, unitAs, membersAs, headAs, grouped, groupAs, lineAs, line}
 
 -- the number as it is
 abbrev same : ℕ → ℕ
