@@ -3,3 +3,5 @@ pub mod Kinds
 pub mod Parsed
 pub mod Numbers
 pub mod Printed
+pub mod Spots
+pub mod Tests

@@ -5,7 +5,7 @@ use mathlib.Core.List.{List, [], _∷_, _++_}
 use lib.Dec.{eqb, ltb}
 use Rattle.model.specs.Shares.{pick}
 use Rattle.text.specs.Kinds.{kindOf}
-use Rattle.text.specs.Parsed.{Parsed, parsed, failed}
+use Rattle.text.specs.Parsed.{Parsed, parsed, failed, andThen, word}
 use Rattle.text.specs.declared.Kind.{Kind}
 use Rattle.text.specs.declared.Kind.the-variants.{Opening, Closing, Space, Digit, Letter, Foreign}
 
@@ -26,6 +26,10 @@ digits v (b ∷ s) = pick (isDigit (kindOf b)) (digits (v * 10 + (b - 48)) s) (p
 unfoldable pub number : List ℕ → Parsed ℕ
 number [] = failed
 number (b ∷ s) = pick (isDigit (kindOf b)) (pick (eqb b 48) (parsed 0 s) (digits (b - 48) s)) failed
+
+-- a word and the number after it
+unfoldable pub numberAfter : List ℕ → List ℕ → Parsed ℕ
+numberAfter w s = andThen (word w s) (λ u s. number s)
 
 -- the digits of v, where there are at most as many as steps
 unfoldable pub digitsOf : ℕ → ℕ → List ℕ

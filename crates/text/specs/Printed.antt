@@ -9,19 +9,12 @@ use native.Mathlib.Nat.{div-add-mod', mod-lt, div-lt-self}
 use native.Mathlib.Decide.{decLt, decLe, ℕ-discrete}
 use borrow.Author.Tests.{le-leb, lt-leb, ne-eqb, eq-eqb, lt-ltb, le-ltb, leb-true, eqb-true, eqb-false}
 use Rattle.model.specs.Shares.{pick}
+use Rattle.text.specs.Tests.{and-left, and-right}
 use Rattle.text.specs.Kinds.{kindOf}
-use Rattle.text.specs.Parsed.{Parsed, parsed, failed, mapped}
+use Rattle.text.specs.Parsed.{Parsed, parsed, failed, mapped, word}
 use Rattle.text.specs.Numbers.{isDigit, digits, number, digitsOf, printNumber, most, held}
 use Rattle.text.specs.declared.Kind.{Kind}
 use Rattle.text.specs.declared.Kind.the-variants.{Opening, Closing, Space, Digit, Letter, Foreign}
-
-and-left : (a b : Bool) → a && b ≡ true → a ≡ true
-and-left true b h = refl
-and-left false b h = h
-
-and-right : (a b : Bool) → a && b ≡ true → b ≡ true
-and-right true b h = h
-and-right false b h = cc
 
 by-tests : (o c s d l : Bool) → isDigit (pick o Opening (pick c Closing (pick s Space (pick d Digit (pick l Letter Foreign))))) ≡ true → d ≡ true
 by-tests true c s d l h = cc
@@ -48,12 +41,13 @@ unfolding digitsOf
 steps zero n v h k = absurd (omega arith)
 steps (suc m) zero v h k = absurd (omega arith)
 steps (suc m) (suc n) v h k =
-    elim (decLt v 10)
-    [ yes p ↦ rw (digitsOf, lt-ltb v 10 p)
-    | no p ↦
-        let q : 10 ≤ v = omega arith in
-        let f : v / 10 < v = div-lt-self (omega arith) (omega arith) in
-        rw (digitsOf, le-ltb v 10 q, steps m n (v / 10) (omega arith) (omega arith)) ]
+    elim (decLt v 10) [
+      | yes p ↦ rw (digitsOf, lt-ltb v 10 p)
+      | no p ↦
+          let q : 10 ≤ v = omega arith in
+          let f : v / 10 < v = div-lt-self (omega arith) (omega arith) in
+          rw (digitsOf, le-ltb v 10 q, steps m n (v / 10) (omega arith) (omega arith))
+    ]
 
 -- a number of one digit
 pub print-one : (v : ℕ) → v < 10 → printNumber v ≡ (48 + v) ∷ []
@@ -83,15 +77,16 @@ printed-goes-on : (n v : ℕ) (s : List ℕ) → v < n → 0 < v → number (pri
 unfolding number
 printed-goes-on zero v s h p = absurd (omega arith)
 printed-goes-on (suc n) v s h p =
-    elim (decLt v 10)
-    [ yes q ↦ rw (print-one v q, byte-digit (48 + v) (omega arith) (omega arith), ne-eqb (48 + v) 48 (λ e. omega arith)) (ap (λ (n : ℕ). digits n s) (omega arith))
-    | no q ↦
-        let f : v / 10 < v = div-lt-self (omega arith) (omega arith) in
-        let e : v / 10 * 10 + (48 + v % 10 - 48) ≡ v = omega arith in
-        rw (print-more v (omega arith), append-assoc)
-        (printed-goes-on n (v / 10) ((48 + v % 10) ∷ s) (omega arith) (omega arith)
-        ∙ go-on (v / 10) (48 + v % 10) s (omega arith) (omega arith)
-        ∙ ap (λ (n : ℕ). digits n s) e) ]
+    elim (decLt v 10) [
+      | yes q ↦ rw (print-one v q, byte-digit (48 + v) (omega arith) (omega arith), ne-eqb (48 + v) 48 (λ e. omega arith)) (ap (λ (n : ℕ). digits n s) (omega arith))
+      | no q ↦
+          let f : v / 10 < v = div-lt-self (omega arith) (omega arith) in
+          let e : v / 10 * 10 + (48 + v % 10 - 48) ≡ v = omega arith in
+          rw (print-more v (omega arith), append-assoc)
+          (printed-goes-on n (v / 10) ((48 + v % 10) ∷ s) (omega arith) (omega arith)
+          ∙ go-on (v / 10) (48 + v % 10) s (omega arith) (omega arith)
+          ∙ ap (λ (n : ℕ). digits n s) e)
+    ]
 
 -- no digit stands first
 unfoldable pub Ends : List ℕ → Type 0
@@ -138,3 +133,15 @@ pub printed-number : (s : List ℕ) (w : ℕ) (t : List ℕ) → number s ≡ pa
 unfolding number
 printed-number [] w t h = absurd (let z : _≡_ {A = ℕ} 0 1 = cc in omega arith)
 printed-number (b ∷ s) w t h = first-digit b s w t (isDigit (kindOf b)) refl (eqb b 48) refl h
+
+-- where a number stands, no word with another first byte than a digit does
+pub number-not-word : (w : ℕ) (ws : List ℕ) (s : List ℕ) (v : ℕ) (t : List ℕ) → isDigit (kindOf w) ≡ false → number s ≡ parsed v t → word (w ∷ ws) s ≡ failed
+unfolding number word
+number-not-word w ws [] v t n h = refl
+number-not-word w ws (b ∷ s) v t n h =
+    let e = is-there (isDigit (kindOf b)) (pick (eqb b 48) (parsed 0 s) (digits (b - 48) s)) h in
+    rw (ne-eqb w b (λ q. let z : true ≡ false = sym e ∙ ap (λ (x : ℕ). isDigit (kindOf x)) (sym q) ∙ n in let y : _≡_ {A = ℕ} 0 1 = cc in omega arith))
+  where
+    is-there : (d : Bool) (p : Parsed ℕ) → pick d p failed ≡ parsed v t → d ≡ true
+    is-there true p h = refl
+    is-there false p h = absurd (let z : _≡_ {A = ℕ} 0 1 = cc in omega arith)
