@@ -27,6 +27,11 @@ pub item-length : (k v : ℕ) → v < 10 ^ suc k → length (item v) ≤ k + 2
 unfolding item flatten
 item-length k v h = omega (arith, print-length k v h, length-append (printNumber v) [])
 
+-- no items take no bytes
+pub items-none : length (items []) ≡ 0
+unfolding items flatten
+items-none = refl
+
 -- the length of items is that of the first and of the others
 pub items-more : (v : ℕ) (vs : List ℕ) → length (items (v ∷ vs)) ≡ length (item v) + length (items vs)
 unfolding items flatten
@@ -34,7 +39,7 @@ items-more v vs = length-append (item v) (flatten (map item vs))
 
 -- numbers below a power of ten take at most so many bytes each
 pub items-length : (k : ℕ) (vs : List ℕ) → ((i : ℕ) → i < length vs → getD vs i 0 < 10 ^ suc k) → length (items vs) ≤ length vs * (k + 2)
-items-length k [] h = unfold items flatten in omega arith
+items-length k [] h = omega (arith, items-none)
 items-length k (v ∷ vs) h =
     omega (
       arith,

@@ -1,4 +1,5 @@
 pub mod Lines
 pub mod Reports
+pub mod Ready
 pub mod Lengths
 pub mod Known
