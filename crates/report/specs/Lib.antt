@@ -2,4 +2,5 @@ pub mod Lines
 pub mod Reports
 pub mod Ready
 pub mod Lengths
+pub mod Evenness
 pub mod Known
