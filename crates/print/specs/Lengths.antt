@@ -38,7 +38,8 @@ unfolding items flatten
 items-more v vs = length-append (item v) (flatten (map item vs))
 
 -- numbers below a power of ten take at most so many bytes each
-pub items-length : (k : ℕ) (vs : List ℕ) → ((i : ℕ) → i < length vs → getD vs i 0 < 10 ^ suc k) → length (items vs) ≤ length vs * (k + 2)
+pub items-length : (k : ℕ) (vs : List ℕ) → ((i : ℕ) → i < length vs → getD vs i 0 < 10 ^ suc k)
+    → length (items vs) ≤ length vs * (k + 2)
 items-length k [] h = omega (arith, items-none)
 items-length k (v ∷ vs) h =
     omega (

@@ -25,7 +25,8 @@ unfolding written
 length-written buffer at bytes = length-sets buffer at bytes
 
 -- what the buffer holds then: what was there before the index, the bytes, and what was there past them
-pub written-is : (buffer : List ℕ) (at : ℕ) (bytes : List ℕ) → Room buffer at bytes → written buffer at bytes ≡ take at buffer ++ bytes ++ drop (at + length bytes) buffer
+pub written-is : (buffer : List ℕ) (at : ℕ) (bytes : List ℕ) → Room buffer at bytes
+    → written buffer at bytes ≡ take at buffer ++ bytes ++ drop (at + length bytes) buffer
 unfolding written
 written-is buffer at bytes room = sets-eq bytes buffer at (room .fits)
 
@@ -38,7 +39,8 @@ written-byte buffer at byte = refl
 pub written-then : (xs ys buffer : List ℕ) (at : ℕ) → written (written buffer at xs) (at + length xs) ys ≡ written buffer at (xs ++ ys)
 unfolding written
 written-then [] ys buffer at = ap (λ (k : ℕ). sets buffer k ys) (omega arith)
-written-then (x ∷ xs) ys buffer at = ap (λ (k : ℕ). sets (sets (set buffer at x) (suc at) xs) k ys) (omega arith) ∙ written-then xs ys (set buffer at x) (suc at)
+written-then (x ∷ xs) ys buffer at =
+    ap (λ (k : ℕ). sets (sets (set buffer at x) (suc at) xs) k ys) (omega arith) ∙ written-then xs ys (set buffer at x) (suc at)
 
 -- in the course of writing the bytes: the pieces that are left of them, and where they go
 pub record Rest (bytes entry : List ℕ) (start : ℕ) (pieces : List (List ℕ)) (buffer : List ℕ) (at : ℕ) : Type 0 where
@@ -47,7 +49,8 @@ pub record Rest (bytes entry : List ℕ) (start : ℕ) (pieces : List (List ℕ)
   pub room : Room buffer at (flatten pieces)
 
 -- at first all pieces are left
-pub begin : (pieces : List (List ℕ)) {bytes entry : List ℕ} {start : ℕ} → flatten pieces ≡ bytes → Room entry start bytes → Rest bytes entry start pieces entry start
+pub begin : (pieces : List (List ℕ)) {bytes entry : List ℕ} {start : ℕ} → flatten pieces ≡ bytes → Room entry start bytes
+    → Rest bytes entry start pieces entry start
 begin pieces {entry} {start} e room = record {
   moves = ap (λ (bytes : List ℕ). start + length bytes) e;
   leaves = ap (λ (bytes : List ℕ). written entry start bytes) e;
@@ -61,7 +64,8 @@ module _ {bytes entry : List ℕ} {start : ℕ} {buffer : List ℕ} {at : ℕ} w
   room-next {piece} {pieces} r = record { fits = omega (arith, r .room .fits, length-append piece (flatten pieces)) }
 
   -- once it is written, those after it are left
-  pub next : {piece : List ℕ} {pieces : List (List ℕ)} {exit : List ℕ} {to : ℕ} → Rest bytes entry start (piece ∷ pieces) buffer at → Wrote piece buffer at exit to → Rest bytes entry start pieces exit to
+  pub next : {piece : List ℕ} {pieces : List (List ℕ)} {exit : List ℕ} {to : ℕ} → Rest bytes entry start (piece ∷ pieces) buffer at
+      → Wrote piece buffer at exit to → Rest bytes entry start pieces exit to
   unfolding flatten
   next {piece} {pieces} r w =
       let same : length (written buffer at piece) ≡ length buffer = length-written buffer at piece in
@@ -72,7 +76,8 @@ module _ {bytes entry : List ℕ} {start : ℕ} {buffer : List ℕ} {at : ℕ} w
       })
 
   -- a piece of two parts is two pieces
-  pub split : (xs ys : List ℕ) {pieces : List (List ℕ)} → Rest bytes entry start ((xs ++ ys) ∷ pieces) buffer at → Rest bytes entry start (xs ∷ ys ∷ pieces) buffer at
+  pub split : (xs ys : List ℕ) {pieces : List (List ℕ)} → Rest bytes entry start ((xs ++ ys) ∷ pieces) buffer at
+      → Rest bytes entry start (xs ∷ ys ∷ pieces) buffer at
   unfolding flatten
   split xs ys {pieces} r =
       let same : xs ++ ys ++ flatten pieces ≡ xs ++ (ys ++ flatten pieces) = append-assoc xs ys (flatten pieces) in
@@ -86,7 +91,8 @@ module _ {bytes entry : List ℕ} {start : ℕ} {buffer : List ℕ} {at : ℕ} w
       record { moved = omega (arith, r .moves); holds = ap (λ (rest : List ℕ). written buffer at rest) (sym e) ∙ r .leaves }
 
 -- the buffer keeps its length
-pub keeps-length : {bytes entry : List ℕ} {at : ℕ} {exit : List ℕ} {next : ℕ} → Wrote bytes entry at exit next → length exit ≡ length entry
+pub keeps-length : {bytes entry : List ℕ} {at : ℕ} {exit : List ℕ} {next : ℕ} → Wrote bytes entry at exit next
+    → length exit ≡ length entry
 keeps-length {bytes} {entry} {at} w = ap length (w .holds) ∙ length-written entry at bytes
 
 -- bytes written at the start come first, then what the buffer held past them

@@ -15,7 +15,7 @@ use Rattle.works.specs.Laws.Passes.{sound-inside}
 use Rattle.works.specs.Laws.Settled.{settled-inside, settled-consistent}
 use Rattle.works.specs.Laws.Turns.{gathered}
 use Rattle.works.specs.Settling.{Outcome, settle}
-use Rattle.works.specs.Tables.{Table, units, lowOf, lowsOf, highsOf, size, unitOf}
+use Rattle.works.specs.Tables.{Table, units, lowOf, highOf, lowsOf, highsOf, size, unitOf}
 use Rattle.report.specs.Lines.{groupLine}
 use Rattle.report.specs.Reports.{levelledLine, groupLines}
 
@@ -42,8 +42,10 @@ module _ {groups : List Group} {table : Table} (sound : Sound groups table) (con
   levelled-evenest group member =
       let one : SoundGroup (units table) group = sound .each group member in
       let ranges : Ranges (lowsOf table group) (highsOf table group) = gathered table group (consistent .valid) one in
-      let low : ℕ = lowOf table (unitOf group 0) in
-      let taken = consistent .each group member .taken 0 (one .some) low (le-refl low) (ranges-at (consistent .valid) (unitOf group 0) (one .below 0 (one .some)) .0) in
+      let unit : ℕ = unitOf group 0 in
+      let low : ℕ = lowOf table unit in
+      let below : low ≤ highOf table unit = ranges-at (consistent .valid) unit (one .below 0 (one .some)) .0 in
+      let taken = consistent .each group member .taken 0 (one .some) low (le-refl low) below in
       record {
         plan = found-plan ranges (group .total) (group .limits) (plan-found ranges (taken .1));
         least = λ xs plan t. least-above ranges (group .total) (plan .within) (plan .adds) t;

@@ -38,10 +38,12 @@ refusal-length number place p q =
       item-length 19 place (omega arith),
     )
 
+-- the line of the passes, with at most nine digits
 settled-length : (passes : ℕ) → passes < 10 ^ 9 → length (settledLine passes) ≤ 20
 settled-length passes h =
     omega (arith, line-length (bytes "(settled") (passes ∷ []), items-more passes [], items-none, item-length 8 passes h)
 
+-- a unit's line, with a number below 1000 and shares
 unit-length : (number low high : ℕ) → number < 10 ^ 3 → low < 10 ^ 7 → high < 10 ^ 7 → length (unitLine number low high) ≤ 27
 unit-length number low high p q r =
     omega (
@@ -56,7 +58,9 @@ unit-length number low high p q r =
       item-length 6 high r,
     )
 
-unit-lengths : {lows highs : List ℕ} → Ranges lows highs → (number : ℕ) → number + length lows < 10 ^ 3 → length (flatten (unitLines number lows highs)) ≤ 27 * length lows
+-- the unit lines of at most some hundreds of units
+unit-lengths : {lows highs : List ℕ} → Ranges lows highs → (number : ℕ) → number + length lows < 10 ^ 3
+    → length (flatten (unitLines number lows highs)) ≤ 27 * length lows
 unfolding unitLines flatten
 unit-lengths Ranges.none number few = omega arith
 unit-lengths (Ranges.also {l} {h} {ls} {hs} p q ranges) number few =
@@ -67,6 +71,7 @@ unit-lengths (Ranges.also {l} {h} {ls} {hs} p q ranges) number few =
       unit-lengths ranges (suc number) (omega arith),
     )
 
+-- a group's line, with numbers of so many digits
 group-length : (number level : ℕ) (deviation : Deviation) (spread : Spread) (shares : List ℕ) → number < 10 ^ 2 → level < 10 ^ 7
     → deviation .0 < 10 ^ 11 → spread .0 < 10 ^ 17 → ((i : ℕ) → i < length shares → getD shares i 0 < 10 ^ 7)
     → length (groupLine number level deviation spread shares) ≤ 56 + 8 * length shares
@@ -92,6 +97,7 @@ group-length number level deviation spread shares p q r s small =
       items-length 6 shares small,
     )
 
+-- a group's line as the report has it
 levelled-line-length : {lows highs : List ℕ} {total : ℕ} → HasShares lows highs total → (number : ℕ) → number < 10 ^ 2
     → length (levelledLine number lows highs total) ≤ 56 + 8 * length lows
 unfolding levelledLine spread
@@ -113,21 +119,24 @@ levelled-line-length {lows} {highs} {total} shares number p =
           (λ i h. omega (arith, share-small sound within i h)),
     )
 
+-- the group lines of fewer than 100 groups
 group-lengths : (table : Table) (groups : List Group) → AllLevelable table groups → (number : ℕ) → number + length groups < 10 ^ 2
     → length (flatten (groupLines number table groups)) ≤ 56 * length groups + 8 * memberships groups
 unfolding groupLines flatten memberships
 group-lengths table [] each number few = omega arith
 group-lengths table (group ∷ groups) each number few =
+    let first : List ℕ = levelledLine number (lowsOf table group) (highsOf table group) (group .total) in
     omega (
       arith,
-      length-append (levelledLine number (lowsOf table group) (highsOf table group) (group .total)) (flatten (groupLines (suc number) table groups)),
+      length-append first (flatten (groupLines (suc number) table groups)),
       gather-length (table .lows) (group .members),
       levelled-line-length (each group (List·Memᴰ·head refl) .shares) number (omega arith),
       group-lengths table groups (λ other member. each other (List·Memᴰ·tail member)) (suc number) (omega arith),
     )
 
 -- every report fits its buffer
-pub report-fits : {groups : List Group} {table : Table} {passes : ℕ} → Reportable groups table passes → length (reportOf groups table passes) ≤ mostBytes
+pub report-fits : {groups : List Group} {table : Table} {passes : ℕ} → Reportable groups table passes
+    → length (reportOf groups table passes) ≤ mostBytes
 unfolding reportOf flatten
 report-fits {groups} {table} {passes} ready =
     let units : List ℕ = flatten (unitLines 1 (table .lows) (table .highs)) in

@@ -21,12 +21,14 @@ abbrev μ : Measures 1 kinds.ps ℕ
 μ κs a = a .1 .1 .0
 
 -- a number of more than one digit, in two pieces
-parts : (v : ℕ) (buffer : List ℕ) (at : ℕ) → 10 ≤ v → Room buffer at (printNumber v) → Rest (printNumber v) buffer at (printNumber (v / 10) ∷ ((48 + v % 10) ∷ []) ∷ []) buffer at
+parts : (v : ℕ) (buffer : List ℕ) (at : ℕ) → 10 ≤ v → Room buffer at (printNumber v)
+    → Rest (printNumber v) buffer at (printNumber (v / 10) ∷ ((48 + v % 10) ∷ []) ∷ []) buffer at
 unfolding flatten
 parts v buffer at h room = begin (printNumber (v / 10) ∷ ((48 + v % 10) ∷ []) ∷ []) (sym (print-more v h)) room
 
 -- once its tenth is written, the last digit is left
-digit : (v : ℕ) (buffer : List ℕ) (at : ℕ) {exit : List ℕ} {to : ℕ} → 10 ≤ v → Room buffer at (printNumber v) → Wrote (printNumber (v / 10)) buffer at exit to → Rest (printNumber v) buffer at (((48 + v % 10) ∷ []) ∷ []) exit to
+digit : (v : ℕ) (buffer : List ℕ) (at : ℕ) {exit : List ℕ} {to : ℕ} → 10 ≤ v → Room buffer at (printNumber v)
+    → Wrote (printNumber (v / 10)) buffer at exit to → Rest (printNumber v) buffer at (((48 + v % 10) ∷ []) ∷ []) exit to
 digit v buffer at h room wrote = next (parts v buffer at h room) wrote
 
 module _ (t : ℕ) where
@@ -76,8 +78,10 @@ module _ (t : ℕ) where
   returns-2 : lts.Need-returns-2 called given put-number.Post
   unfolding flatten
   returns-2 c =
-      let start = c .before .before .before .before .before .before .before .before .before .before in
-      done refl (next (digit _ _ _ (c .before .before .before .before .before .before .before .before .if1 .left) (start .pre .1) (c .before .before .before .before .before .before .put-number .ensures)) (c .before .before .put-byte2 .ensures))
+      let tenth = c .before .before .before .before .before .before in
+      let start = tenth .before .before .before .before in
+      done refl
+      (next (digit _ _ _ (tenth .before .before .if1 .left) (start .pre .1) (tenth .put-number .ensures)) (c .before .before .put-byte2 .ensures))
 
 pub +put-number-spec : {M : Type 1} → statement M
 +put-number-spec = close μ λ t. lts.spec (called t) (given t) put-number.Post

@@ -10,7 +10,8 @@ use Rattle.print.specs.Written.{Room, Rest, begin, room-next, next, done
 use Rattle.print.proofs.put_item.Statement.{statement}
 use Rattle.print.proofs.put_item.Tie as tie
 
-parts : (v : ℕ) {buffer : List ℕ} {at : ℕ} → Room buffer at (item v) → Rest (item v) buffer at (bytes " " ∷ printNumber v ∷ []) buffer at
+parts : (v : ℕ) {buffer : List ℕ} {at : ℕ} → Room buffer at (item v)
+    → Rest (item v) buffer at (bytes " " ∷ printNumber v ∷ []) buffer at
 unfolding item
 parts v room = begin _ refl room
 
@@ -18,7 +19,9 @@ put-byte-requires : tie.Need-put-byte-requires
 put-byte-requires c κs = room-next (parts _ (c .before .before .pre))
 
 put-number-requires : tie.Need-put-number-requires
-put-number-requires c κs = room-next (next (parts _ (c .before .before .before .before .before .before .pre)) (c .before .before .before .put-byte .ensures))
+put-number-requires c κs =
+    let first = c .before .before .before in
+    room-next (next (parts _ (first .before .before .before .pre)) (first .put-byte .ensures))
 
 same-length : tie.Need-same-length
 same-length c = search needs
@@ -26,8 +29,9 @@ same-length c = search needs
 returns : tie.Need-returns
 unfolding flatten
 returns c =
-    let middle = c .before .before .before .before .before .before in
-    done refl (next (next (parts _ (middle .before .before .before .pre)) (middle .put-byte .ensures)) (c .before .before .put-number .ensures))
+    let first = c .before .before .before .before .before .before in
+    done refl
+    (next (next (parts _ (first .before .before .before .pre)) (first .put-byte .ensures)) (c .before .before .put-number .ensures))
 
 pub put-item-spec : {M : Type 1} → statement M
 put-item-spec = tie.close (tie.spec put-byte-requires put-number-requires same-length returns)

@@ -12,7 +12,9 @@ use Rattle.print.proofs.put_items.Statement.{statement}
 use Rattle.print.proofs.put_items.Tie as tie
 
 -- the next number, and those after it
-one : (vs : List ℕ) (i : ℕ) {bytes entry : List ℕ} {start : ℕ} {buffer : List ℕ} {at : ℕ} → i < length vs → Rest bytes entry start (map item (drop i vs)) buffer at → Rest bytes entry start (item (getD vs i 0) ∷ map item (drop (i + 1) vs)) buffer at
+one : (vs : List ℕ) (i : ℕ) {bytes entry : List ℕ} {start : ℕ} {buffer : List ℕ} {at : ℕ}
+    → i < length vs → Rest bytes entry start (map item (drop i vs)) buffer at
+    → Rest bytes entry start (item (getD vs i 0) ∷ map item (drop (i + 1) vs)) buffer at
 one vs i below r = rw add-one (rw (drop-cons vs i 0 below) at r)
 
 abbrev Inv-loop : tie.InvT-loop
@@ -41,7 +43,9 @@ loop-less : tie.Need-loop-less Inv-loop μ-loop
 loop-less c = search needs
 
 loop-again : tie.Need-loop-again Inv-loop μ-loop
-loop-again c = next (one _ _ (c .before .before .before .before .before .loop-test .taken) (c .before .before .before .before .before .before .loop .inv)) (c .before .before .put-item .ensures)
+loop-again c =
+    let turn = c .before .before .before .before .before in
+    next (one _ _ (turn .loop-test .taken) (turn .before .loop .inv)) (c .before .before .put-item .ensures)
 
 returns : tie.Need-returns Inv-loop μ-loop
 unfolding flatten

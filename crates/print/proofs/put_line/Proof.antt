@@ -9,7 +9,8 @@ use Rattle.print.specs.Written.{Room, Rest, begin, room-next, next, done
 use Rattle.print.proofs.put_line.Statement.{statement}
 use Rattle.print.proofs.put_line.Tie as tie
 
-parts : (word vs : List ℕ) {buffer : List ℕ} {at : ℕ} → Room buffer at (line word vs) → Rest (line word vs) buffer at (form word vs ∷ bytes ")\n" ∷ []) buffer at
+parts : (word vs : List ℕ) {buffer : List ℕ} {at : ℕ} → Room buffer at (line word vs)
+    → Rest (line word vs) buffer at (form word vs ∷ bytes ")\n" ∷ []) buffer at
 unfolding line
 parts word vs room = begin _ refl room
 
@@ -20,7 +21,9 @@ slice-aggregate-put-word : tie.Need-slice-aggregate-put-word
 slice-aggregate-put-word c = search needs
 
 put-word-requires : tie.Need-put-word-requires
-put-word-requires c κs = room-next (next (parts _ _ (c .before .before .before .before .before .before .before .before .before .pre)) (c .before .before .before .before .put-form .ensures))
+put-word-requires c κs =
+    let first = c .before .before .before .before in
+    room-next (next (parts _ _ (first .before .before .before .before .before .pre)) (first .put-form .ensures))
 
 same-length : tie.Need-same-length
 same-length c = search needs
@@ -28,8 +31,9 @@ same-length c = search needs
 returns : tie.Need-returns
 unfolding flatten
 returns c =
-    let middle = c .before .before .before .before .before .before .before in
-    done refl (next (next (parts _ _ (middle .before .before .before .before .before .pre)) (middle .put-form .ensures)) (c .before .before .put-word .ensures))
+    let first = c .before .before .before .before .before .before .before in
+    done refl
+    (next (next (parts _ _ (first .before .before .before .before .before .pre)) (first .put-form .ensures)) (c .before .before .put-word .ensures))
 
 pub put-line-spec : {M : Type 1} → statement M
 put-line-spec =

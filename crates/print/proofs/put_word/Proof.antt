@@ -12,7 +12,9 @@ use Rattle.print.proofs.put_word.Statement.{statement}
 use Rattle.print.proofs.put_word.Tie as tie
 
 -- the next byte, and those after it
-one : (word : List ℕ) (i : ℕ) {bytes entry : List ℕ} {start : ℕ} {buffer : List ℕ} {at : ℕ} → i < length word → Rest bytes entry start (drop i word ∷ []) buffer at → Rest bytes entry start ((getD word i 0 ∷ []) ∷ drop (i + 1) word ∷ []) buffer at
+one : (word : List ℕ) (i : ℕ) {bytes entry : List ℕ} {start : ℕ} {buffer : List ℕ} {at : ℕ}
+    → i < length word → Rest bytes entry start (drop i word ∷ []) buffer at
+    → Rest bytes entry start ((getD word i 0 ∷ []) ∷ drop (i + 1) word ∷ []) buffer at
 one word i below r = rw add-one (split (getD word i 0 ∷ []) (drop (suc i) word) (rw (drop-cons word i 0 below) at r))
 
 abbrev Inv-loop : tie.InvT-loop
@@ -38,7 +40,9 @@ loop-less : tie.Need-loop-less Inv-loop μ-loop
 loop-less c = search needs
 
 loop-again : tie.Need-loop-again Inv-loop μ-loop
-loop-again c = next (one _ _ (c .before .before .before .before .before .loop-test .taken) (c .before .before .before .before .before .before .loop .inv)) (c .before .before .put-byte .ensures)
+loop-again c =
+    let turn = c .before .before .before .before .before in
+    next (one _ _ (turn .loop-test .taken) (turn .before .loop .inv)) (c .before .before .put-byte .ensures)
 
 returns : tie.Need-returns Inv-loop μ-loop
 unfolding flatten

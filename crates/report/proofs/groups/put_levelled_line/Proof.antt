@@ -30,7 +30,10 @@ use Rattle.report.proofs.groups.put_levelled_line.Tie as tie
 module _ {lows highs : List ℕ} {total : ℕ} (shares : HasShares lows highs total) where
   -- the answer
   answers : {answer : Levelling} → answer ≡ levelledTo lows highs total
-      → answer ≡ Levelled (record { copies = level lows highs total }) (record { 0 = deviation (length lows) total (levelled lows highs total) }) (record { 0 = spread (length lows) total (levelled lows highs total) })
+      → answer ≡ Levelled
+      (record { copies = level lows highs total })
+      (record { 0 = deviation (length lows) total (levelled lows highs total) })
+      (record { 0 = spread (length lows) total (levelled lows highs total) })
   unfolding levelledTo
   answers e = e ∙ rw (le-leb _ _ (shares .low), le-leb _ _ (shares .high))
 
@@ -66,7 +69,9 @@ same-length : tie.Need-same-length
 same-length c = search needs
 
 returns : tie.Need-returns
-returns c = absurd (never (c .before .before .before .before .before .before .before .before .before .before .pre .0) (c .before .before .before .before .level-core .ensures .0) (c .enum-told .given .1))
+returns c =
+    let levelling = c .before .before .before .before in
+    absurd (never (levelling .before .before .before .before .before .before .pre .0) (levelling .level-core .ensures .0) (c .enum-told .given .1))
 
 copies-requires : tie.Need-copies-requires
 copies-requires c κs = search needs
@@ -79,9 +84,10 @@ slice-aggregate-put-group-line c = simp length-take (search needs)
 
 put-group-line-requires : tie.Need-put-group-line-requires
 put-group-line-requires c κs =
-    let start = c .before .before .before .before .before .before .before .before .before .before .before .before .before .before in
-    let levelling = c .before .before .before .before .before .before .before .before .level-core in
-    rw (line-is (start .pre .0) _ _ _ _ _ _ (levelling .ensures .0) (c .before .before .before .before .level .given .1) (c .before .copies .ensures) (levelling .ensures .1)) (start .pre .1 .1)
+    let levelling = c .before .before .before .before .before .before .before .before in
+    let start = levelling .before .before .before .before .before .before in
+    let answer = levelling .level-core .ensures in
+    rw (line-is (start .pre .0) _ _ _ _ _ _ (answer .0) (c .before .before .before .before .level .given .1) (c .before .copies .ensures) (answer .1)) (start .pre .1 .1)
 
 same-length-2 : tie.Need-same-length-2
 same-length-2 c = search needs
@@ -91,9 +97,12 @@ same-length-3 c = search needs
 
 returns-2 : tie.Need-returns-2
 returns-2 c =
-    let start = c .before .before .before .before .before .before .before .before .before .before .before .before .before .before .before .before .before in
-    let levelling = c .before .before .before .before .before .before .before .before .before .before .before .level-core in
-    rw (← line-is (start .pre .0) _ _ _ _ _ _ (levelling .ensures .0) (c .before .before .before .before .before .before .before .level .given .1) (c .before .before .before .before .copies .ensures) (levelling .ensures .1)) (c .before .before .put-group-line .ensures)
+    let copied = c .before .before .before .before in
+    let levelling = copied .before .before .before .before .before .before .before in
+    let start = levelling .before .before .before .before .before .before in
+    let answer = levelling .level-core .ensures in
+    rw (← line-is (start .pre .0) _ _ _ _ _ _ (answer .0) (copied .before .before .before .level .given .1) (copied .copies .ensures) (answer .1))
+    (c .before .before .put-group-line .ensures)
 
 pub put-levelled-line-spec : {M : Type 1} → statement M
 put-levelled-line-spec =

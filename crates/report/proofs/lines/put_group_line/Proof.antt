@@ -32,15 +32,18 @@ slice-aggregate-put-form-3 : tie.Need-slice-aggregate-put-form-3
 slice-aggregate-put-form-3 c = search needs
 
 put-form-requires-2 : tie.Need-put-form-requires-2
-put-form-requires-2 c κs = room-next (next (parts _ _ _ _ _ (c .before .before .before .before .before .before .before .before .before .before .pre)) (c .before .before .before .before .put-form .ensures))
+put-form-requires-2 c κs =
+    let first = c .before .before .before .before in
+    room-next (next (parts _ _ _ _ _ (first .before .before .before .before .before .before .pre)) (first .put-form .ensures))
 
 slice-aggregate-put-word : tie.Need-slice-aggregate-put-word
 slice-aggregate-put-word c = search needs
 
 put-word-requires : tie.Need-put-word-requires
 put-word-requires c κs =
-    let first = c .before .before .before .before .before .before .before .before .before in
-    room-next (next (next (parts _ _ _ _ _ (first .before .before .before .before .before .before .pre)) (first .put-form .ensures)) (c .before .before .before .before .put-form2 .ensures))
+    let second = c .before .before .before .before in
+    let first = second .before .before .before .before .before in
+    room-next (next (next (parts _ _ _ _ _ (first .before .before .before .before .before .before .pre)) (first .put-form .ensures)) (second .put-form2 .ensures))
 
 same-length : tie.Need-same-length
 same-length c = search needs
@@ -48,8 +51,10 @@ same-length c = search needs
 returns : tie.Need-returns
 unfolding flatten
 returns c =
-    let first = c .before .before .before .before .before .before .before .before .before .before .before .before in
-    done refl (next (next (next (parts _ _ _ _ _ (first .before .before .before .before .before .before .pre)) (first .put-form .ensures)) (c .before .before .before .before .before .before .before .put-form2 .ensures)) (c .before .before .put-word .ensures))
+    let second = c .before .before .before .before .before .before .before in
+    let first = second .before .before .before .before .before in
+    let opened = next (parts _ _ _ _ _ (first .before .before .before .before .before .before .pre)) (first .put-form .ensures) in
+    done refl (next (next opened (second .put-form2 .ensures)) (c .before .before .put-word .ensures))
 
 pub put-group-line-spec : {M : Type 1} → statement M
 put-group-line-spec =

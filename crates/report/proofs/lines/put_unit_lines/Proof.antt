@@ -16,7 +16,8 @@ use Rattle.report.proofs.lines.put_unit_lines.Tie as tie
 -- the next unit's line, and those after it
 one : (lows highs : List ℕ) (i : ℕ) {bytes entry : List ℕ} {start : ℕ} {buffer : List ℕ} {at : ℕ} → i < length lows → i < length highs
     → Rest bytes entry start (unitLines (suc i) (drop i lows) (drop i highs)) buffer at
-    → Rest bytes entry start (unitLine (i + 1) (getD lows i 0) (getD highs i 0) ∷ unitLines (suc (i + 1)) (drop (i + 1) lows) (drop (i + 1) highs)) buffer at
+    → Rest bytes entry start
+    (unitLine (i + 1) (getD lows i 0) (getD highs i 0) ∷ unitLines (suc (i + 1)) (drop (i + 1) lows) (drop (i + 1) highs)) buffer at
 unfolding unitLines
 one lows highs i p q r = rw add-one (rw (drop-cons lows i 0 p, drop-cons highs i 0 q) at r)
 
@@ -45,7 +46,9 @@ shared-slice-read-put-unit-line-2 : tie.Need-shared-slice-read-put-unit-line-2 I
 shared-slice-read-put-unit-line-2 c = search needs
 
 put-unit-line-requires : tie.Need-put-unit-line-requires Inv-loop μ-loop
-put-unit-line-requires c κs = room-next (one _ _ _ (c .before .before .before .loop-test .taken) (omega arith) (c .before .before .before .before .loop .inv))
+put-unit-line-requires c κs =
+    let turn = c .before .before .before in
+    room-next (one _ _ _ (turn .loop-test .taken) (omega arith) (turn .before .loop .inv))
 
 add-i : tie.Need-add-i Inv-loop μ-loop
 add-i c = search needs
@@ -54,7 +57,9 @@ loop-less : tie.Need-loop-less Inv-loop μ-loop
 loop-less c = search needs
 
 loop-again : tie.Need-loop-again Inv-loop μ-loop
-loop-again c = next (one _ _ _ (c .before .before .before .before .before .before .loop-test .taken) (omega arith) (c .before .before .before .before .before .before .before .loop .inv)) (c .before .before .put-unit-line .ensures)
+loop-again c =
+    let turn = c .before .before .before .before .before .before in
+    next (one _ _ _ (turn .loop-test .taken) (omega arith) (turn .before .loop .inv)) (c .before .before .put-unit-line .ensures)
 
 returns : tie.Need-returns Inv-loop μ-loop
 unfolding unitLines flatten
