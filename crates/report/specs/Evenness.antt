@@ -25,11 +25,11 @@ pub record Evenest (table : Table) (group : Group) (shares : List ℕ) : Type 0 
   pub least : (xs : List ℕ) → PlanIn table group xs → (t : ℕ) → above t shares ≤ above t xs
 
 -- each group's line in order, the first with the given number: the group's level, and evenest shares with their own figures
-pub data Even (table : Table) : ℕ → List Group → List (List ℕ) → Type 0 where
-  none : {number : ℕ} → Even table number [] []
+pub data EvenLines (table : Table) : ℕ → List Group → List (List ℕ) → Type 0 where
+  none : {number : ℕ} → EvenLines table number [] []
   also : {number : ℕ} {group : Group} {groups : List Group} {lines : List (List ℕ)} (shares : List ℕ) → Evenest table group shares
-      → Even table (suc number) groups lines
-      → Even table number (group ∷ groups) (groupLine number
+      → EvenLines table (suc number) groups lines
+      → EvenLines table number (group ∷ groups) (groupLine number
       (level (lowsOf table group) (highsOf table group) (group .total))
       (record { 0 = deviation (size group) (group .total) shares })
       (record { 0 = spread (size group) (group .total) shares })
@@ -54,18 +54,18 @@ module _ {groups : List Group} {table : Table} (sound : Sound groups table) (con
 -- so each line says what it should
 lines-even : (table : Table) (number : ℕ) (groups : List Group)
     → ((group : Group) → List·Memᴰ group groups → Evenest table group (levelled (lowsOf table group) (highsOf table group) (group .total)))
-    → Even table number groups (groupLines number table groups)
+    → EvenLines table number groups (groupLines number table groups)
 unfolding groupLines levelledLine
-lines-even table number [] evenest = Even.none
+lines-even table number [] evenest = EvenLines.none
 lines-even table number (group ∷ groups) evenest =
     rw (gather-length (table .lows) (group .members))
-    (Even.also {number = number} (levelled (lowsOf table group) (highsOf table group) (group .total))
+    (EvenLines.also {number = number} (levelled (lowsOf table group) (highsOf table group) (group .total))
     (evenest group (List·Memᴰ·head refl))
     (lines-even table (suc number) groups (λ other member. evenest other (List·Memᴰ·tail member))))
 
 -- the group lines of a settled table
 pub settled-lines : {groups : List Group} {table final : Table} {passes : ℕ} → Sound groups table
-    → settle groups table ≡ Outcome.settled final passes → Even final 1 groups (groupLines 1 final groups)
+    → settle groups table ≡ Outcome.settled final passes → EvenLines final 1 groups (groupLines 1 final groups)
 settled-lines {groups} {table} {final} sound e =
     let consistent : Consistent groups final = settled-consistent sound e in
     lines-even final 1 groups
