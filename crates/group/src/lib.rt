@@ -19,6 +19,7 @@ ghost use Rattle.group.specs.Levelling.{levelledTo, levelling, planAfter
 
 pub mod checks;
 pub mod plans;
+pub mod ranges;
 pub mod shares;
 
 // A group has at most so many members.
