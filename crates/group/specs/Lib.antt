@@ -6,3 +6,5 @@ pub mod Levelling
 pub mod Passed
 pub mod Edges
 pub mod Ends
+pub mod Partly
+pub mod Narrowing

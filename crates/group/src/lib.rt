@@ -50,6 +50,12 @@ pub enum Levelling {
     Refused(Refusal),
 }
 
+// What narrowing a group answers; the ranges lie in its lists.
+pub enum Narrowing {
+    Narrowed,
+    Refused(Refusal),
+}
+
 // Levels sound lists: the levelled shares go to the plan, over its first numbers.
 pub fn level_core(lows: &[u64], highs: &[u64], total: u64, plan: &mut [u64]) -> Levelling
     requires { ⌜ Sound (now lows) (now highs) ⌝ }
