@@ -1,2 +1,3 @@
 // Settling: many groups over shared units.
 pub mod members;
+pub mod tables;
