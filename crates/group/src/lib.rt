@@ -19,6 +19,7 @@ ghost use Rattle.group.specs.Levelling.{levelledTo, levelling, planAfter
 
 pub mod checks;
 pub mod plans;
+pub mod ranges;
 pub mod shares;
 
 // A group has at most so many members.
@@ -46,6 +47,12 @@ pub enum Levelling {
         deviation: Deviation,
         spread: Spread,
     },
+    Refused(Refusal),
+}
+
+// What narrowing a group answers; the ranges lie in its lists.
+pub enum Narrowing {
+    Narrowed,
     Refused(Refusal),
 }
 

@@ -1,6 +1,7 @@
 -- The laws of one group, a file for each topic.
 pub mod Tests
 pub mod Lists
+pub mod Walk
 pub mod Even
 pub mod Transfer
 pub mod Least
@@ -15,4 +16,3 @@ pub mod Narrowing
 pub mod Keeping
 pub mod Ends
 pub mod Turns
-pub mod Walk

@@ -1,0 +1,55 @@
+-- What narrowing one group on lists answers, and the lists after it. Assumes nothing.
+use Prim.Native.Nat.{ℕ}
+use mathlib.Core.Bool.{Bool, true, _&&_}
+use mathlib.Core.List.{List}
+use lib.Dec.{leb}
+use lib.ListN.{length}
+use Rattle.model.specs.Plans.{turnOf}
+use Rattle.model.specs.declared.Limit.{Limit}
+use Rattle.model.specs.declared.Limit.the-variants.{Any, AtMost}
+use Rattle.model.specs.declared.Limits.{Limits}
+use Rattle.model.specs.declared.Turn.{Turn}
+use Rattle.model.specs.declared.Turn.the-variants.{NoPlan}
+use Rattle.group.specs.Sound.{greatestTotal}
+use Rattle.group.specs.Checks.{checkLists}
+use Rattle.group.specs.declared.Check.{Check}
+use Rattle.group.specs.declared.Check.the-variants.{Passed, Failed}
+use Rattle.group.specs.declared.Narrowing.{Narrowing}
+use Rattle.group.specs.declared.Narrowing.the-variants.{Refused}
+
+-- a list after a turn: the narrowed one, or as it was where there is no plan
+abbrev pub afterTurn : Turn → List ℕ → List ℕ → List ℕ
+afterTurn Turn.Narrowed narrowed was = narrowed
+afterTurn (NoPlan number) narrowed was = was
+
+-- 01: "the deviation limit 0 to 100,000,000,000, the spread limit 0 to 100,000,000,000,000,000"
+abbrev pub greatestDeviation : ℕ
+greatestDeviation = 100_000_000_000
+
+abbrev pub greatestSpread : ℕ
+greatestSpread = 100_000_000_000_000_000
+
+abbrev pub limitWithin : Limit → ℕ → Bool
+limitWithin Any greatest = true
+limitWithin (AtMost most) greatest = leb most greatest
+
+-- 01, 4 for total and limits: each is in its range
+abbrev pub amountsWithin : ℕ → Limits → Bool
+amountsWithin total limits =
+    leb total greatestTotal && (limitWithin (limits .deviation) greatestDeviation && limitWithin (limits .spread) greatestSpread)
+
+-- a turn's answer as that of a call on lists: a refusal has place 0
+abbrev pub afterCheck : Check → Turn → Narrowing
+afterCheck (Failed refusal) turn = Refused refusal
+afterCheck Passed Turn.Narrowed = Narrowing.Narrowed
+afterCheck Passed (NoPlan number) = Refused (record { number = number; place = 0 })
+
+-- 01: narrowing one group from lists
+unfoldable pub narrowing : List ℕ → List ℕ → ℕ → Limits → Narrowing
+narrowing lows highs total limits =
+    afterCheck (checkLists lows highs (length lows) (amountsWithin total limits)) (turnOf lows highs total limits)
+
+-- 01: on success the lists hold the narrowed ranges, on a refusal they are as they were
+abbrev pub listAfter : Narrowing → List ℕ → List ℕ → List ℕ
+listAfter Narrowing.Narrowed narrowed was = narrowed
+listAfter (Refused refusal) narrowed was = was
