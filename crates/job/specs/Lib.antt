@@ -1,6 +1,7 @@
 pub mod Form
 pub mod Spelling
-pub mod Seen
 pub mod Job
 pub mod Verdicts
 pub mod Held
+pub mod Tally
+pub mod Seen

@@ -86,3 +86,8 @@ pub word-own : (w s : List ℕ) → word w (w ++ s) ≡ parsed tt s
 unfolding word
 word-own [] s = refl
 word-own (w ∷ ws) s = rw (eq-eqb w w refl) (word-own ws s)
+
+pub mapped-like : {A B : Type 0} (f g : A → B) (p : Parsed A) → ((a : A) → f a ≡ g a) → mapped f p ≡ mapped g p
+unfolding mapped
+mapped-like f g (parsed a s) h = rw (h a)
+mapped-like f g failed h = refl
