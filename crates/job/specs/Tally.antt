@@ -11,7 +11,8 @@ use Rattle.text.specs.Parsed.{Parsed, parsed, failed, andThen, mapped, orElse, 
 use Rattle.text.specs.Tests.{and-true, and-assoc}
 use Rattle.text.specs.Numbers.{held}
 use Rattle.text.specs.Printed.{number-after-shorter}
-use Rattle.job.specs.Form.{space, numberAs, membersAs}
+use Rattle.job.specs.Form.{GroupLine, space, numberAs, membersAs, grouped}
+use Rattle.job.specs.declared.lines.Head.{Head}
 use Rattle.job.specs.Job.{named, allNamed, memberOf}
 
 pub record Tally : Type 0 where
@@ -95,3 +96,24 @@ collect-next units from zero t s m r l h = let d = number-after-shorter space s 
 collect-next units from (suc n) t s m r l h =
     let d = number-after-shorter space s m r h in
     (n, omega arith, d, rw h (collect-first units from n (noted units from t m) r (parsed t s)))
+
+-- a group line as the code keeps it
+pub record GroupTally : Type 0 where
+  pub head : Head
+  pub tally : Tally
+
+abbrev pub groupTally : ℕ → ℕ → List ℕ → GroupLine → GroupTally
+groupTally units from flat g =
+    record { head = record { total = g .total; limits = g .limits }; tally = tallied units from flat (g .first ∷ g .others) }
+
+-- a line with no member is none
+pub grouped-none : (units from : ℕ) (flat : List ℕ) (h : Head) (ms s : List ℕ) (t : Tally) → tallied units from flat ms ≡ t → t .count ≡ 0 → grouped h ms s ≡ failed
+unfolding grouped tallied
+grouped-none units from flat h [] s t e z = refl
+grouped-none units from flat h (m ∷ ms) s t e z = absurd (omega (arith, ap (λ (t : Tally). t .count) e))
+
+-- a line with members is a group line
+pub grouped-some : (units from : ℕ) (flat : List ℕ) (h : Head) (ms s : List ℕ) (t : Tally) → tallied units from flat ms ≡ t → (t .count ≡ 0 → ⊥) → mapped (groupTally units from flat) (grouped h ms s) ≡ parsed (record { head = h; tally = t }) s
+unfolding grouped mapped tallied
+grouped-some units from flat h [] s t e n = absurd (n (sym (ap (λ (t : Tally). t .count) e)))
+grouped-some units from flat h (m ∷ ms) s t e n = rw (← e)

@@ -5,10 +5,10 @@ ghost use mathlib.Core.Bool.{_&&_};
 ghost use lib.ListN.{length, drop, set};
 ghost use Rattle.text.specs.Parsed.{mapped};
 ghost use Rattle.job.specs.Job.{mostBytes, named, memberOf};
-ghost use Rattle.job.specs.Tally.{tallied};
+ghost use Rattle.job.specs.Tally.{tallied, groupTally};
 ghost use Rattle.text.specs.Numbers.{held};
-ghost use Rattle.job.specs.Form.{space, numberAs, unitAs, limitAs, headAs, membersAs};
-ghost use Rattle.job.specs.Seen.{unitSeen, limitSeen, headSeen, membersSeen};
+ghost use Rattle.job.specs.Form.{space, numberAs, unitAs, limitAs, headAs, membersAs, groupAs};
+ghost use Rattle.job.specs.Seen.{unitSeen, limitSeen, headSeen, membersSeen, groupSeen};
 ghost use Rattle.text.specs.Spots.{counted};
 use model::Limit;
 use model::Limits;
@@ -45,6 +45,12 @@ pub struct Members {
     pub count: usize,
     pub within: bool,
     pub next: Spot,
+}
+
+// What reading a group line answers: its head, and its members with the spot after the line.
+pub enum GroupRead {
+    Is(Head, Members),
+    Missing,
 }
 
 pub fn unit_line(text: &[u8], spot: Spot) -> UnitRead
@@ -155,4 +161,32 @@ pub fn read_members(text: &[u8], spot: Spot, flat: &mut [u64], from: usize, unit
         count += 1;
         at = after.at;
     }
+}
+
+// Reads a group line, and stores its members from a place on.
+pub fn group_line(text: &[u8], spot: Spot, flat: &mut [u64], from: usize, units: usize) -> GroupRead
+    requires { ⌜ (length (now text) ≤ mostBytes) × (from ≤ mostBytes) ⌝ }
+    ensures { λ r. ⌜ groupSeen (now (text .entry)) (now (flat .exit)) r ≡ mapped (groupTally units from (now (flat .entry))) (groupAs held (drop (spot .at) (now (text .entry)))) ⌝ }
+{
+    let HeadRead::Is(head, spot) = head_line(text, spot) else {
+        return GroupRead::Missing;
+    };
+    let members = read_members(text, spot, flat, from, units);
+    let count = members.count;
+    let within = members.within;
+    let end = members.next;
+    let Step::To(next) = end.word(text, b"))\n") else {
+        return GroupRead::Missing;
+    };
+    if count == 0 {
+        return GroupRead::Missing;
+    }
+    GroupRead::Is(
+        head,
+        Members {
+            count,
+            within,
+            next,
+        },
+    )
 }
