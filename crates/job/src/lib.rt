@@ -1,2 +1,3 @@
 // Reading a job text.
 pub mod lines;
+pub mod steps;
