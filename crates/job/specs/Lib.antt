@@ -8,3 +8,4 @@ pub mod Held
 pub mod Tally
 pub mod Seen
 pub mod Steps
+pub mod Taking
