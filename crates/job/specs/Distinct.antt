@@ -87,14 +87,14 @@ distinct-members units (m ∷ ms) h =
     rw (holds-members units m ms n rest, distinct-members units ms rest)
 
 -- and below the count
-pub members-below : (units : ℕ) (ms : List ℕ) → allNamed units ms ≡ true → AllBelow units (map memberOf ms)
+pub members-below : (units n : ℕ) (ms : List ℕ) → units ≤ n → allNamed units ms ≡ true → AllBelow n (map memberOf ms)
 unfolding allNamed AllBelow
-members-below units [] h = tt
-members-below units (m ∷ ms) h =
+members-below units n [] l h = tt
+members-below units n (m ∷ ms) l h =
     let t = and-left (named units m) (allNamed units ms) h in
-    let n = leb-true 1 m (and-left (leb 1 m) (leb m units) t) in
+    let one = leb-true 1 m (and-left (leb 1 m) (leb m units) t) in
     let k = leb-true m units (and-right (leb 1 m) (leb m units) t) in
-    (omega arith, members-below units ms (and-right (named units m) (allNamed units ms) h))
+    (omega arith, members-below units n ms l (and-right (named units m) (allNamed units ms) h))
 
 -- a number of the list is below
 pub below-at : (n : ℕ) (xs : List ℕ) (i : ℕ) → AllBelow n xs → i < length xs → getD xs i 0 < n

@@ -42,3 +42,29 @@ pub record Holds (job : Job) (p : Progress) (l : Lists) : Type 0 where
 abbrev pub Answers : List ℕ → Lists → Taken → Stepped → Type 0
 Answers text l (taken.Line p spot) stepped = (job : Job) × (stepped ≡ next job (drop (spot .at) text)) × Holds job p l
 Answers text l (taken.Refused r) stepped = stepped ≡ stop r
+
+-- the lists, given one by one
+abbrev pub lists : List ℕ → List ℕ → List ℕ → List ℕ → List ℕ → List ℕ → Lists
+lists lows₀ highs₀ flat₀ lows highs flat =
+    record { lows₀ = lows₀; highs₀ = highs₀; flat₀ = flat₀; lows = lows; highs = highs; flat = flat }
+
+-- taking a unit line, whatever the job so far
+abbrev pub UnitTaken : Progress → UnitLine → ℕ → List ℕ → List ℕ → List ℕ → List ℕ → Taken → Type 0
+UnitTaken p u at lows highs lows′ highs′ r =
+    (text : List ℕ) (job : Job) (lows₀ highs₀ flat₀ flat : List ℕ)
+    → Holds job p (lists lows₀ highs₀ flat₀ lows highs flat)
+    → Answers text (lists lows₀ highs₀ flat₀ lows′ highs′ flat) r (stepOn job (parsed (unit u) (drop at text)))
+
+-- taking a group line
+abbrev pub GroupTaken : List ℕ → Progress → ℕ → List ℕ → List ℕ → Taken → Type 0
+GroupTaken text p at flat flat′ r =
+    (job : Job) (lows₀ highs₀ flat₀ lows highs : List ℕ)
+    → Holds job p (lists lows₀ highs₀ flat₀ lows highs flat)
+    → Answers text (lists lows₀ highs₀ flat₀ lows highs flat′) r (stepOn job (mapped group (groupAs held (drop at text))))
+
+-- taking a line
+abbrev pub LineTaken : List ℕ → Progress → ℕ → List ℕ → List ℕ → List ℕ → List ℕ → List ℕ → List ℕ → Taken → Type 0
+LineTaken text p at lows highs flat lows′ highs′ flat′ r =
+    (job : Job) (lows₀ highs₀ flat₀ : List ℕ)
+    → Holds job p (lists lows₀ highs₀ flat₀ lows highs flat)
+    → Answers text (lists lows₀ highs₀ flat₀ lows′ highs′ flat′) r (stepOn job (line (drop at text)))

@@ -10,7 +10,7 @@ use Rattle.model.specs.declared.Limits.{Limits}
 use Rattle.text.specs.Parsed.{Parsed, parsed, failed, mapped}
 use Rattle.text.specs.Numbers.{held}
 use Rattle.job.specs.Form.{UnitLine, GroupLine, Line, unit, group, groupAs}
-use Rattle.job.specs.Job.{Job, mostUnits, mostGroups, mostMemberships, memberships, unitVerdict, headVerdict, membersVerdict, verdict, first, allNamed, distinct, memberOf, groupOf, add, refusal, placeOf, judged, Stepped, next, stop, stepOn}
+use Rattle.job.specs.Job.{Job, mostUnits, mostGroups, mostMemberships, mostFlat, memberships, unitVerdict, headVerdict, membersVerdict, verdict, first, allNamed, distinct, memberOf, groupOf, add, refusal, placeOf, judged, Stepped, next, stop, stepOn}
 use Rattle.job.specs.Flat.{limitCode, flatGroup, flatten, flatten-snoc, length-flatten, memberships-snoc, stored, put-behind}
 use Rattle.job.specs.Verdicts.{unit-good, head-good}
 use Rattle.job.specs.Steps.{Bounded, Lists, Holds}
@@ -107,15 +107,15 @@ module _ (job : Job) (p : Progress) (l : Lists) (holds : Holds job p l) (g : Gro
   abbrev start : ℕ
   start = p .groups * 4 + p .memberships
 
-  fits : headOf ≡ 0 → mostGroups * 4 + mostMemberships ≤ length (l .flat) → start + 4 + length (numbersOf g) ≤ length (l .flat₀)
+  fits : headOf ≡ 0 → mostFlat ≤ length (l .flat) → start + 4 + length (numbersOf g) ≤ length (l .flat₀)
   fits e h =
       let k = head-good _ _ (g .total) (g .limits) _ e in
       omega (arith, k .room, k .fits, ap length (holds .flat), length-append (flatten (job .groups)) (drop start (l .flat₀)), length-drop start (l .flat₀), length-flatten (job .groups), holds .groups, holds .taken)
 
-  abbrev headNumbers : List ℕ
+  abbrev pub headNumbers : List ℕ
   headNumbers = g .total ∷ limitCode (g .limits .deviation) ∷ limitCode (g .limits .spread) ∷ length (numbersOf g) ∷ []
 
-  flat-stored : headOf ≡ 0 → mostGroups * 4 + mostMemberships ≤ length (l .flat) → sets (sets (l .flat) (start + 4) (map memberOf (numbersOf g))) start headNumbers ≡ flatten (job .groups ++ groupOf g ∷ []) ++ drop ((p .groups + 1) * 4 + (p .memberships + length (numbersOf g))) (l .flat₀)
+  flat-stored : headOf ≡ 0 → mostFlat ≤ length (l .flat) → sets (sets (l .flat) (start + 4) (map memberOf (numbersOf g))) start headNumbers ≡ flatten (job .groups ++ groupOf g ∷ []) ++ drop ((p .groups + 1) * 4 + (p .memberships + length (numbersOf g))) (l .flat₀)
   flat-stored e h =
       let ms : List ℕ = map memberOf (numbersOf g) in
       let n : length ms ≡ length (numbersOf g) = length-map (numbersOf g) memberOf in
@@ -128,22 +128,26 @@ module _ (job : Job) (p : Progress) (l : Lists) (holds : Holds job p l) (g : Gro
       ∙ ap (λ f. f ++ drop (start + 4 + length ms) (l .flat₀)) whole
       ∙ ap (λ k. flatten (job .groups ++ groupOf g ∷ []) ++ drop k (l .flat₀)) end
 
-  pub group-holds : headOf ≡ 0 → mostGroups * 4 + mostMemberships ≤ length (l .flat) → Holds (add job (group g)) (record { units = p .units; groups = p .groups + 1; memberships = p .memberships + length (numbersOf g) }) (record { lows₀ = l .lows₀; highs₀ = l .highs₀; flat₀ = l .flat₀; lows = l .lows; highs = l .highs; flat = sets (sets (l .flat) (start + 4) (map memberOf (numbersOf g))) start headNumbers })
+  pub group-holds : (count : ℕ) (flat : List ℕ) → headOf ≡ 0 → mostFlat ≤ length (l .flat) → length (numbersOf g) ≡ count → flat ≡ sets (sets (l .flat) (start + 4) (map memberOf (numbersOf g))) start headNumbers → Holds (add job (group g)) (record { units = p .units; groups = p .groups + 1; memberships = p .memberships + count }) (record { lows₀ = l .lows₀; highs₀ = l .highs₀; flat₀ = l .flat₀; lows = l .lows; highs = l .highs; flat = flat })
   unfolding add
-  group-holds e h =
+  group-holds count flat e h n s =
       let k = head-good _ _ (g .total) (g .limits) _ e in
       record {
-        bounded = record { units = holds .bounded .units; groups = omega (arith, k .room); memberships = k .fits };
+        bounded = record { units = holds .bounded .units; groups = omega (arith, k .room); memberships = omega (arith, k .fits) };
         units = holds .units;
         pairs = holds .pairs;
         groups = rw (length-append, holds .groups);
-        taken = rw (memberships-snoc (job .groups) (groupOf g), holds .taken, length-map);
+        taken = rw (memberships-snoc (job .groups) (groupOf g), holds .taken, length-map, ← n);
         lows = holds .lows;
         highs = holds .highs;
-        flat = flat-stored e h;
+        flat = rw (s, ← n) (flat-stored e h);
       }
 
 -- the part of a list where numbers were stored
 pub part-of-sets : (d vs : List ℕ) (i : ℕ) → i + length vs ≤ length d → take (length vs) (drop i (sets d i vs)) ≡ vs
 part-of-sets d vs i h =
     rw (sets-eq vs d i h, append-assoc, drop-at (take i d) (vs ++ drop (i + length vs) d) i (length-take-le i d (omega arith))) (take-at vs _ (length vs) refl)
+
+-- equal heads are stored alike
+pub heads-alike : (d : List ℕ) (at : ℕ) {t u : ℕ} {l k : Limits} {n m : ℕ} → t ≡ u → l ≡ k → n ≡ m → sets d at (t ∷ limitCode (l .deviation) ∷ limitCode (l .spread) ∷ n ∷ []) ≡ sets d at (u ∷ limitCode (k .deviation) ∷ limitCode (k .spread) ∷ m ∷ [])
+heads-alike d at e f g = rw (e, f, g)

@@ -7,11 +7,11 @@ use native.Mathlib.Omega.{arith}
 use native.Mathlib.Numerals.{add-one}
 use lib.ListN.{length, set}
 use lib.Seq.{sets}
-use Rattle.text.specs.Parsed.{Parsed, parsed, failed, andThen, mapped, orElse, mapped-like}
+use Rattle.text.specs.Parsed.{Parsed, parsed, failed, andThen, mapped, orElse, mapped-like, mapped-parsed}
 use Rattle.text.specs.Tests.{and-true, and-assoc}
 use Rattle.text.specs.Numbers.{held}
 use Rattle.text.specs.Printed.{number-after-shorter}
-use Rattle.job.specs.Form.{GroupLine, space, numberAs, membersAs, grouped}
+use Rattle.job.specs.Form.{GroupLine, space, numberAs, membersAs, grouped, groupAs}
 use Rattle.job.specs.declared.lines.Head.{Head}
 use Rattle.job.specs.Job.{named, allNamed, memberOf}
 
@@ -117,3 +117,28 @@ pub grouped-some : (units from : ℕ) (flat : List ℕ) (h : Head) (ms s : List 
 unfolding grouped mapped tallied
 grouped-some units from flat h [] s t e n = absurd (n (sym (ap (λ (t : Tally). t .count) e)))
 grouped-some units from flat h (m ∷ ms) s t e n = rw (← e)
+
+-- what the code knows of a group line that it read
+pub record GroupFacts (units from : ℕ) (flat flat′ s r : List ℕ) (head : Head) (count : ℕ) (within : Bool) : Type 0 where
+  pub line : GroupLine
+  pub read : groupAs held s ≡ parsed line r
+  pub total : line .total ≡ head .total
+  pub limits : line .limits ≡ head .limits
+  pub counted : length (line .first ∷ line .others) ≡ count
+  pub all-within : allNamed units (line .first ∷ line .others) ≡ within
+  pub stored : flat′ ≡ sets flat from (map memberOf (line .first ∷ line .others))
+
+pub group-facts : (units from : ℕ) (flat flat′ s r : List ℕ) (head : Head) (count : ℕ) (within : Bool) → mapped (groupTally units from flat) (groupAs held s) ≡ parsed (record { head = head; tally = record { count = count; within = within; flat = flat′ } }) r → GroupFacts units from flat flat′ s r head count within
+unfolding tallied
+group-facts units from flat flat′ s r head count within h =
+    let m = mapped-parsed (groupTally units from flat) (groupAs held s) h in
+    let t = ap (λ (g : GroupTally). g .tally) (m .2) in
+    record {
+      line = m .0;
+      read = m .1;
+      total = ap (λ (g : GroupTally). g .head .total) (m .2);
+      limits = ap (λ (g : GroupTally). g .head .limits) (m .2);
+      counted = ap (λ (t : Tally). t .count) t;
+      all-within = ap (λ (t : Tally). t .within) t;
+      stored = sym (ap (λ (t : Tally). t .flat) t);
+    }

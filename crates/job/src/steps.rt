@@ -5,11 +5,15 @@ ghost use mathlib.Core.List.{List, _∷_, []};
 ghost use Prim.Native.Nat.{ℕ, _+_, _≤_, _<_};
 ghost use lib.ListN.{length, drop, replicate};
 ghost use lib.Seq.{sets};
-ghost use Rattle.job.specs.Job.{mostBytes, limitUpTo, unitVerdict, headVerdict, distinct};
+ghost use Rattle.job.specs.Job.{mostBytes, mostUnits, mostFlat, refusal, limitUpTo, unitVerdict, headVerdict, distinct};
 ghost use Rattle.job.specs.Flat.{limitCode};
 ghost use Rattle.job.specs.Distinct.{AllBelow, freshBy};
-ghost use Rattle.job.specs.Steps.{Bounded};
+ghost use Rattle.job.specs.Steps.{Bounded, UnitTaken, GroupTaken};
+ghost use Rattle.job.specs.Taking.{placeAt};
+ghost use Rattle.text.specs.Numbers.{most as mostNumber};
+use crate::lines::GroupRead;
 use crate::lines::Head;
+use crate::lines::group_line;
 use model::Limit;
 use model::Refusal;
 use model::Share;
@@ -73,7 +77,7 @@ fn limit_up_to(limit: Limit, most: u64) -> bool
 
 // The refusal of a group line by its head and the number of its members, 0 where there is none.
 fn head_verdict(progress: Progress, head: Head, count: usize) -> u64
-    requires { ⌜ (progress .memberships ≤ mostBytes) × (count ≤ mostBytes) ⌝ }
+    requires { ⌜ Bounded progress ⌝ }
     ensures { λ r. ⌜ r ≡ headVerdict (progress .groups) (progress .memberships) (head .total) (head .limits) count ⌝ }
 {
     if MOST_TOTAL < head.total {
@@ -91,7 +95,7 @@ fn head_verdict(progress: Progress, head: Head, count: usize) -> u64
     if MOST_GROUPS <= progress.groups {
         return 6;
     }
-    if MOST_MEMBERSHIPS < progress.memberships + count {
+    if MOST_MEMBERSHIPS - progress.memberships < count {
         return 6;
     }
     0
@@ -123,11 +127,98 @@ fn are_distinct(members: &[u64]) -> bool
 }
 
 fn limit_code(limit: Limit) -> u64
-    requires { ⌜ limitUpTo 1_000_000_000_000_000_000 limit ≡ true ⌝ }
+    requires { ⌜ limitUpTo mostNumber limit ≡ true ⌝ }
     ensures { λ r. ⌜ r ≡ limitCode limit ⌝ }
 {
     match limit {
         Limit::Any => 0,
         Limit::AtMost(number) => number + 1,
     }
+}
+
+// Stores a group's head: its total, the codes of its limits, and the number of its members.
+fn put_head(flat: &mut [u64], at: usize, head: Head, count: usize)
+    requires { ⌜ (at + 4 ≤ length (now flat)) × (limitUpTo mostNumber (head .limits .deviation) ≡ true) × (limitUpTo mostNumber (head .limits .spread) ≡ true) ⌝ }
+    ensures { λ _. ⌜ now (flat .exit) ≡ sets (now (flat .entry)) at (head .total ∷ limitCode (head .limits .deviation) ∷ limitCode (head .limits .spread) ∷ count ∷ []) ⌝ }
+{
+    let limits = head.limits;
+    let deviation = limits.deviation;
+    let spread = limits.spread;
+    let first = limit_code(deviation);
+    let second = limit_code(spread);
+    flat[at] = head.total;
+    flat[at + 1] = first;
+    flat[at + 2] = second;
+    flat[at + 3] = count as u64;
+}
+
+// The refusal of the line after what was read.
+fn refuse(progress: Progress, number: u64) -> Taken
+    requires { ⌜ Bounded progress ⌝ }
+    ensures { λ r. ⌜ r ≡ Taken.Refused (refusal number (placeAt progress)) ⌝ }
+{
+    let place = (progress.units + progress.groups + 1) as u64;
+    Taken::Refused(Refusal { number, place })
+}
+
+fn take_unit(
+    progress: Progress,
+    low: u64,
+    high: u64,
+    spot: Spot,
+    lows: &mut [u64],
+    highs: &mut [u64],
+) -> Taken
+    requires { ⌜ Bounded progress × (mostUnits ≤ length (now lows)) × (mostUnits ≤ length (now highs)) ⌝ }
+    ensures { λ r. ⌜ UnitTaken progress (record { low = low; high = high }) (spot .at) (now (lows .entry)) (now (highs .entry)) (now (lows .exit)) (now (highs .exit)) r ⌝ }
+{
+    let number = unit_verdict(progress, low, high);
+    if number != 0 {
+        return refuse(progress, number);
+    }
+    let units = progress.units;
+    let groups = progress.groups;
+    let memberships = progress.memberships;
+    lows[units] = low;
+    highs[units] = high;
+    let more = Progress {
+        units: units + 1,
+        groups,
+        memberships,
+    };
+    Taken::Line(more, spot)
+}
+
+fn take_group(text: &[u8], spot: Spot, progress: Progress, flat: &mut [u64]) -> Taken
+    requires { ⌜ Bounded progress × (length (now text) ≤ mostBytes) × (mostFlat ≤ length (now flat)) ⌝ }
+    ensures { λ r. ⌜ GroupTaken (now (text .entry)) progress (spot .at) (now (flat .entry)) (now (flat .exit)) r ⌝ }
+{
+    let units = progress.units;
+    let groups = progress.groups;
+    let memberships = progress.memberships;
+    let at = groups * 4 + memberships;
+    let from = at + 4;
+    let GroupRead::Is(head, members) = group_line(text, spot, flat, from, units) else {
+        return refuse(progress, 3);
+    };
+    let count = members.count;
+    let number = head_verdict(progress, head, count);
+    if number != 0 {
+        return refuse(progress, number);
+    }
+    let within = members.within;
+    if !within {
+        return refuse(progress, 8);
+    }
+    if !are_distinct(&flat[from..from + count]) {
+        return refuse(progress, 9);
+    }
+    put_head(flat, at, head, count);
+    let more = Progress {
+        units,
+        groups: groups + 1,
+        memberships: memberships + count,
+    };
+    let next = members.next;
+    Taken::Line(more, next)
 }

@@ -1,5 +1,6 @@
 -- Each test in turn. Assumes nothing.
 use borrow.Author.Tests.{le-leb, lt-leb, lt-ltb, le-ltb, eq-eqb, ne-eqb, not-true, not-false}
+use Prim.Native.Nat.{_+_}
 use mathlib.Core.Path.{sym, _∙_}
 use Rattle.job.specs.Job.{headVerdict, limitUpTo}
 use native.Mathlib.Omega.{arith}
@@ -32,16 +33,22 @@ returns-4 : tie.Need-returns-4
 unfolding headVerdict
 returns-4 c = simp (le-leb _ _ (c .before .before .before .before .before .before .before .if1 .left), sym (c .before .before .before .before .before .limit-up-to .ensures) ∙ not-false _ (c .before .before .before .before .if2 .left), sym (c .before .before .before .limit-up-to2 .ensures) ∙ not-false _ (c .before .before .if3 .left), le-ltb _ _ (c .if4 .taken))
 
-add-if5 : tie.Need-add-if5
-add-if5 c = search needs
+sub-if5 : tie.Need-sub-if5
+sub-if5 c = search needs
 
 returns-5 : tie.Need-returns-5
 unfolding headVerdict
-returns-5 c = simp (le-leb _ _ (c .before .before .before .before .before .before .before .before .before .if1 .left), sym (c .before .before .before .before .before .before .before .limit-up-to .ensures) ∙ not-false _ (c .before .before .before .before .before .before .if2 .left), sym (c .before .before .before .before .before .limit-up-to2 .ensures) ∙ not-false _ (c .before .before .before .before .if3 .left), lt-ltb _ _ (c .before .before .if4 .left), lt-leb _ _ (c .if5 .taken))
+returns-5 c =
+    let s = c .before .before .before .before .before .before .before .before .before .before .before in
+    let a = s .args in
+    simp (le-leb _ _ (c .before .before .before .before .before .before .before .before .before .if1 .left), sym (c .before .before .before .before .before .before .before .limit-up-to .ensures) ∙ not-false _ (c .before .before .before .before .before .before .if2 .left), sym (c .before .before .before .before .before .limit-up-to2 .ensures) ∙ not-false _ (c .before .before .before .before .if3 .left), lt-ltb _ _ (c .before .before .if4 .left), lt-leb (a .progress .memberships + a .count) 4096 (omega (arith, c .if5 .taken)))
 
 returns-6 : tie.Need-returns-6
 unfolding headVerdict
-returns-6 c = simp (le-leb _ _ (c .before .before .before .before .before .before .before .before .before .if1 .left), sym (c .before .before .before .before .before .before .before .limit-up-to .ensures) ∙ not-false _ (c .before .before .before .before .before .before .if2 .left), sym (c .before .before .before .before .before .limit-up-to2 .ensures) ∙ not-false _ (c .before .before .before .before .if3 .left), lt-ltb _ _ (c .before .before .if4 .left), le-leb _ _ (c .if5 .left))
+returns-6 c =
+    let s = c .before .before .before .before .before .before .before .before .before .before .before in
+    let a = s .args in
+    simp (le-leb _ _ (c .before .before .before .before .before .before .before .before .before .if1 .left), sym (c .before .before .before .before .before .before .before .limit-up-to .ensures) ∙ not-false _ (c .before .before .before .before .before .before .if2 .left), sym (c .before .before .before .before .before .limit-up-to2 .ensures) ∙ not-false _ (c .before .before .before .before .if3 .left), lt-ltb _ _ (c .before .before .if4 .left), le-leb (a .progress .memberships + a .count) 4096 (omega (arith, c .if5 .left, s .pre .memberships)))
 
 pub head-verdict-spec : {M : Type 1} → statement M
 head-verdict-spec =
@@ -53,6 +60,6 @@ head-verdict-spec =
     limit-up-to-requires-2
     returns-3
     returns-4
-    add-if5
+    sub-if5
     returns-5
     returns-6)
