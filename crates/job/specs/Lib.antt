@@ -9,3 +9,4 @@ pub mod Tally
 pub mod Seen
 pub mod Steps
 pub mod Taking
+pub mod Reading

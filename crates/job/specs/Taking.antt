@@ -7,9 +7,10 @@ use native.Mathlib.Omega.{arith}
 use lib.ListN.{length, take, drop, set, length-append, length-drop, length-map}
 use lib.Seq.{sets, sets-eq, take-at, drop-at, length-take-le}
 use Rattle.model.specs.declared.Limits.{Limits}
-use Rattle.text.specs.Parsed.{Parsed, parsed, failed, mapped}
+use Rattle.text.specs.Parsed.{Parsed, parsed, failed, mapped, orElse}
 use Rattle.text.specs.Numbers.{held}
-use Rattle.job.specs.Form.{UnitLine, GroupLine, Line, unit, group, groupAs}
+use Rattle.job.specs.Form.{UnitLine, GroupLine, Line, unit, group, unitAs, groupAs, lineAs, line}
+use Rattle.job.specs.Held.{step-held}
 use Rattle.job.specs.Job.{Job, mostUnits, mostGroups, mostMemberships, mostFlat, memberships, unitVerdict, headVerdict, membersVerdict, verdict, first, allNamed, distinct, memberOf, groupOf, add, refusal, placeOf, judged, Stepped, next, stop, stepOn}
 use Rattle.job.specs.Flat.{limitCode, flatGroup, flatten, flatten-snoc, length-flatten, memberships-snoc, stored, put-behind}
 use Rattle.job.specs.Verdicts.{unit-good, head-good}
@@ -151,3 +152,17 @@ part-of-sets d vs i h =
 -- equal heads are stored alike
 pub heads-alike : (d : List ℕ) (at : ℕ) {t u : ℕ} {l k : Limits} {n m : ℕ} → t ≡ u → l ≡ k → n ≡ m → sets d at (t ∷ limitCode (l .deviation) ∷ limitCode (l .spread) ∷ n ∷ []) ≡ sets d at (u ∷ limitCode (k .deviation) ∷ limitCode (k .spread) ∷ m ∷ [])
 heads-alike d at e f g = rw (e, f, g)
+
+-- a line that is no unit line is taken as a group line
+pub line-is-group : (job : Job) (p : Progress) (l : Lists) → Holds job p l → (s : List ℕ) → unitAs held s ≡ failed → stepOn job (mapped group (groupAs held s)) ≡ stepOn job (line s)
+unfolding lineAs mapped orElse
+line-is-group job p l holds s h =
+    sym (ap (λ p. stepOn job (orElse (mapped unit p) (mapped group (groupAs held s)))) h)
+    ∙ step-held job s (omega (arith, holds .units, holds .bounded .units))
+
+-- a unit line is taken as one
+pub line-is-unit : (job : Job) (p : Progress) (l : Lists) → Holds job p l → (s : List ℕ) (u : UnitLine) (r : List ℕ) → unitAs held s ≡ parsed u r → stepOn job (parsed (unit u) r) ≡ stepOn job (line s)
+unfolding lineAs mapped orElse
+line-is-unit job p l holds s u r h =
+    sym (ap (λ p. stepOn job (orElse (mapped unit p) (mapped group (groupAs held s)))) h)
+    ∙ step-held job s (omega (arith, holds .units, holds .bounded .units))

@@ -8,12 +8,14 @@ ghost use lib.Seq.{sets};
 ghost use Rattle.job.specs.Job.{mostBytes, mostUnits, mostFlat, refusal, limitUpTo, unitVerdict, headVerdict, distinct};
 ghost use Rattle.job.specs.Flat.{limitCode};
 ghost use Rattle.job.specs.Distinct.{AllBelow, freshBy};
-ghost use Rattle.job.specs.Steps.{Bounded, UnitTaken, GroupTaken};
+ghost use Rattle.job.specs.Steps.{Bounded, UnitTaken, GroupTaken, LineTaken};
 ghost use Rattle.job.specs.Taking.{placeAt};
 ghost use Rattle.text.specs.Numbers.{most as mostNumber};
 use crate::lines::GroupRead;
 use crate::lines::Head;
+use crate::lines::UnitRead;
 use crate::lines::group_line;
+use crate::lines::unit_line;
 use model::Limit;
 use model::Refusal;
 use model::Share;
@@ -221,4 +223,15 @@ fn take_group(text: &[u8], spot: Spot, progress: Progress, flat: &mut [u64]) -> 
     };
     let next = members.next;
     Taken::Line(more, next)
+}
+
+// Takes the line at a spot: what it adds to the lists, or its refusal.
+pub fn take_line(text: &[u8], spot: Spot, progress: Progress, lows: &mut [u64], highs: &mut [u64], flat: &mut [u64]) -> Taken
+    requires { ⌜ Bounded progress × (length (now text) ≤ mostBytes) × (mostUnits ≤ length (now lows)) × (mostUnits ≤ length (now highs)) × (mostFlat ≤ length (now flat)) ⌝ }
+    ensures { λ r. ⌜ LineTaken (now (text .entry)) progress (spot .at) (now (lows .entry)) (now (highs .entry)) (now (flat .entry)) (now (lows .exit)) (now (highs .exit)) (now (flat .exit)) r ⌝ }
+{
+    let UnitRead::Range(low, high, next) = unit_line(text, spot) else {
+        return take_group(text, spot, progress, flat);
+    };
+    take_unit(progress, low, high, next, lows, highs)
 }
