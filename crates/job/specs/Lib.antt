@@ -10,3 +10,4 @@ pub mod Seen
 pub mod Steps
 pub mod Taking
 pub mod Reading
+pub mod Scanning

@@ -6,8 +6,11 @@ ghost use lib.ListN.{length, take, drop};
 ghost use Rattle.job.specs.Job.{mostUnits, mostFlat};
 ghost use Rattle.job.specs.Reading.{readingOf, readTable, lowsAfter, highsAfter, Scanned};
 use model::Refusal;
-use steps::{Progress, Taken, take_line};
+use steps::Progress;
+use steps::Taken;
+use steps::take_line;
 use text::Spot;
+
 pub mod lines;
 pub mod steps;
 
@@ -35,7 +38,11 @@ pub fn scan(text: &[u8], lows: &mut [u64], highs: &mut [u64], flat: &mut [u64]) 
         return refused(2);
     }
     let mut at = 0;
-    let mut progress = Progress { units: 0, groups: 0, memberships: 0 };
+    let mut progress = Progress {
+        units: 0,
+        groups: 0,
+        memberships: 0,
+    };
     while at < text.len() {
         let spot = Spot { at };
         let taken = take_line(text, spot, progress, lows, highs, flat);
@@ -53,5 +60,8 @@ pub fn scan(text: &[u8], lows: &mut [u64], highs: &mut [u64], flat: &mut [u64]) 
     if units == 0 {
         return refused(10);
     }
-    Reading::Read { units, groups: progress.groups }
+    Reading::Read {
+        units,
+        groups: progress.groups,
+    }
 }

@@ -226,7 +226,14 @@ fn take_group(text: &[u8], spot: Spot, progress: Progress, flat: &mut [u64]) -> 
 }
 
 // Takes the line at a spot: what it adds to the lists, or its refusal.
-pub fn take_line(text: &[u8], spot: Spot, progress: Progress, lows: &mut [u64], highs: &mut [u64], flat: &mut [u64]) -> Taken
+pub fn take_line(
+    text: &[u8],
+    spot: Spot,
+    progress: Progress,
+    lows: &mut [u64],
+    highs: &mut [u64],
+    flat: &mut [u64],
+) -> Taken
     requires { ⌜ Bounded progress × (length (now text) ≤ mostBytes) × (mostUnits ≤ length (now lows)) × (mostUnits ≤ length (now highs)) × (mostFlat ≤ length (now flat)) ⌝ }
     ensures { λ r. ⌜ LineTaken (now (text .entry)) progress (spot .at) (now (lows .entry)) (now (highs .entry)) (now (flat .entry)) (now (lows .exit)) (now (highs .exit)) (now (flat .exit)) r ⌝ }
 {
