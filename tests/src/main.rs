@@ -1,6 +1,8 @@
 //! Runs all tests. An argument is the seed that the topics draw theirs from.
 
 use danivomel_tests::check::Checks;
+#[cfg(feature = "level")]
+use danivomel_tests::planner;
 use danivomel_tests::{independent, topics};
 use std::process::ExitCode;
 
@@ -9,6 +11,8 @@ fn main() -> ExitCode {
     println!("seed {seed}");
     let mut checks = Checks::new(seed);
     independent_planner(&mut checks);
+    #[cfg(feature = "level")]
+    proved_planner(&mut checks);
     checks.end()
 }
 
@@ -28,4 +32,19 @@ fn independent_planner(checks: &mut Checks) {
     topics::calls::run_settle(checks, who, independent::settle);
     topics::report::run(checks, who, independent::report);
     topics::calls::run_report(checks, who, independent::report);
+}
+
+/// The proved planner against brute force and against the independent planner.
+#[cfg(feature = "level")]
+fn proved_planner(checks: &mut Checks) {
+    let who = "planner";
+    topics::level::run(checks, who, planner::level);
+    topics::level::compare(checks, who, planner::level);
+    topics::lists::run_level(checks, who, planner::level);
+    #[cfg(feature = "narrow")]
+    {
+        topics::narrow::run(checks, who, planner::narrow);
+        topics::narrow::compare(checks, who, planner::narrow);
+        topics::lists::run_narrow(checks, who, planner::narrow);
+    }
 }

@@ -1,6 +1,6 @@
 // The level of a group and its levelled shares, from the ranges alone.
 ghost use mathlib.Core.Path.{_≡_};
-ghost use Prim.Native.Nat.{_+_, _≤_, min, max};
+ghost use Prim.Native.Nat.{_+_, _≤_, min};
 ghost use mathlib.Core.List.{_++_};
 ghost use lib.ListN.{length, drop};
 ghost use Rattle.model.specs.Shares.{sum};
@@ -18,21 +18,18 @@ fn smaller(a: u64, b: u64) -> u64
     b
 }
 
-// The larger of two numbers.
-fn larger(a: u64, b: u64) -> u64
-    ensures { λ r. ⌜ r ≡ max a b ⌝ }
-{
-    if a <= b {
-        return b;
-    }
-    a
-}
-
 // A level moved into a range.
 pub fn clamp(low: u64, high: u64, v: u64) -> u64
+    requires { ⌜ low ≤ high ⌝ }
     ensures { λ r. ⌜ r ≡ clamp low high v ⌝ }
 {
-    larger(low, smaller(v, high))
+    if v < low {
+        return low;
+    }
+    if high < v {
+        return high;
+    }
+    v
 }
 
 // The copy that a member takes of those left over: one, or none.

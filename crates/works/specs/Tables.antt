@@ -13,6 +13,10 @@ pub record Table : Type 0 where
   pub lows : List ℕ
   pub highs : List ℕ
 
+-- the table of these lows and highs
+abbrev pub tableOf : List ℕ → List ℕ → Table
+tableOf lows highs = record { lows = lows; highs = highs }
+
 -- 01: each "with low at most high"
 abbrev pub Valid : Table → Type 0
 Valid table = Ranges (table .lows) (table .highs)
@@ -47,6 +51,10 @@ pub record Inside (inner outer : Table) : Type 0 where
   pub sameHighs : length (inner .highs) ≡ length (outer .highs)
   pub above : (unit : ℕ) → lowOf outer unit ≤ lowOf inner unit
   pub below : (unit : ℕ) → highOf inner unit ≤ highOf outer unit
+
+-- each member is one of so many units
+pub record Named (count : ℕ) (members : List ℕ) : Type 0 where
+  pub below : (k : ℕ) → k < length members → getD members k 0 < count
 
 -- the members' entries, in the group's order
 unfoldable pub gather : List ℕ → List ℕ → List ℕ

@@ -12,7 +12,7 @@ use Rattle.model.specs.Shares.{Within, greatestShare, sumOf}
 use Rattle.model.specs.Figures.{apart, deviation, spread}
 use Rattle.model.specs.Levels.{topped}
 use Rattle.model.specs.Laws.Walk.{Passed, passed-step, passed-all}
-use Rattle.model.specs.Laws.Lists.{within-length}
+use Rattle.model.specs.Laws.Lists.{ranges-at, within-length}
 use Rattle.group.specs.Sound.{greatestCount, greatestTotal}
 use Rattle.group.specs.Bounds.{share-at-small, sum-small, squares-small, deviation-small}
 use Rattle.group.proofs.plans.figures_at.Statement.{statement}
@@ -58,7 +58,7 @@ shared-slice-read-clamp-2 : tie.Need-shared-slice-read-clamp-2 Inv-loop μ-loop
 shared-slice-read-clamp-2 c = search needs
 
 clamp-requires : tie.Need-clamp-requires Inv-loop μ-loop
-clamp-requires c κs = search needs
+clamp-requires c κs = ranges-at (c .before .before .before .before .before .before .before .before .before .pre .0 .ranges) (c .before .before .before .before .before .before .loop .i) (omega arith) .0
 
 -- the shares, which are in the ranges, and their total
 module _ (s : tie.Start Inv-loop μ-loop) where

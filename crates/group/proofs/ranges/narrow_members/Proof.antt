@@ -6,6 +6,7 @@ use mathlib.Core.Path.{_≡_, refl, sym, _∙_}
 use Prim.Native.Nat.{ℕ, _+_, _-_, _≤_, min}
 use lib.ListN.{length, getD}
 use Rattle.model.specs.Levels.{clamp, growth, topped, levelled}
+use Rattle.model.specs.Laws.Lists.{ranges-at}
 use Rattle.model.specs.Laws.Walk.{Ahead, ahead-share, ahead-step}
 use Rattle.group.specs.Sound.{levelled-is}
 use Rattle.group.specs.Bounds.{share-at-small}
@@ -58,7 +59,9 @@ slice-read-clamp-2 : tie.Need-slice-read-clamp-2 Inv-loop μ-loop
 slice-read-clamp-2 c = search needs
 
 clamp-requires : tie.Need-clamp-requires Inv-loop μ-loop
-clamp-requires c κs = search needs
+clamp-requires c κs =
+    let partly = partly-sound (c .before .before .before .before .before .before .before .before .before .before .before .before .before .before .before .pre) (c .before .before .before .before .before .before .loop .inv .1) in
+    ranges-at (partly .ranges) (c .before .before .before .before .before .before .loop .i) (omega (arith, partly .paired)) .0
 
 -- the start, the loop's turn, the copy taken and the share, seen from the member's share on
 module _ (c : tie.After-clamp Inv-loop μ-loop) where

@@ -3,6 +3,7 @@ use borrow.Author.Needs.{needs}
 use native.Mathlib.Omega.{arith}
 use Prim.Native.Nat.{_-_, _≤_}
 use lib.ListN.{length}
+use Rattle.model.specs.Laws.Lists.{ranges-at}
 use Rattle.model.specs.Laws.Walk.{Written, written-none, written-step, written-all}
 use Rattle.group.specs.Bounds.{share-at-small}
 use Rattle.group.proofs.shares.fill_plan.Statement.{statement}
@@ -45,7 +46,7 @@ shared-slice-read-clamp-2 : tie.Need-shared-slice-read-clamp-2 Inv-loop μ-loop
 shared-slice-read-clamp-2 c = search needs
 
 clamp-requires : tie.Need-clamp-requires Inv-loop μ-loop
-clamp-requires c κs = search needs
+clamp-requires c κs = ranges-at (c .before .before .before .before .before .before .before .before .before .before .pre .0 .ranges) (c .before .before .before .before .before .before .loop .i) (omega arith) .0
 
 -- the start and the loop's turn, seen from the member's share on
 module _ (c : tie.After-clamp Inv-loop μ-loop) where

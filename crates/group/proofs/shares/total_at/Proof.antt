@@ -6,7 +6,7 @@ use Prim.Native.Nat.{_+_, _-_, _≤_}
 use lib.ListN.{length, drop, drop-of-length-le}
 use Rattle.model.specs.Shares.{sum}
 use Rattle.model.specs.Levels.{totalAt, clamped}
-use Rattle.model.specs.Laws.Lists.{ranges-length}
+use Rattle.model.specs.Laws.Lists.{ranges-at}
 use Rattle.model.specs.Laws.Walk.{totalAt-walk}
 use Rattle.group.specs.Sound.{totalAt-small}
 use Rattle.group.proofs.shares.total_at.Statement.{statement}
@@ -34,7 +34,7 @@ shared-slice-read-clamp-2 : tie.Need-shared-slice-read-clamp-2 Inv-loop μ-loop
 shared-slice-read-clamp-2 c = search needs
 
 clamp-requires : tie.Need-clamp-requires Inv-loop μ-loop
-clamp-requires c κs = search needs
+clamp-requires c κs = ranges-at (c .before .before .before .before .before .before .pre .ranges) (c .before .before .before .loop .i) (omega arith) .0
 
 -- the function's start, seen from the loop's end
 abbrev start : tie.After-clamp Inv-loop μ-loop → tie.Start Inv-loop μ-loop

@@ -1,0 +1,112 @@
+//! The proved planner for Rust: safe calls over the functions of libplanner.a, which include/danivomel.h documents.
+//! Every call takes any lists and numbers, and refuses what the specification does not allow; a refusal changes no
+//! list.
+
+use crate::answers::{Deviation, Levelled, Refusal, Spread};
+#[cfg(feature = "narrow")]
+use crate::answers::{Limit, Limits};
+
+/// What levelling answers across the border; a refusal's number 0 says that there is none.
+#[repr(C)]
+struct ForeignLevelled {
+    refusal: Refusal,
+    level: u64,
+    deviation: Deviation,
+    spread: Spread,
+}
+
+/// A limit across the border.
+#[cfg(feature = "narrow")]
+#[repr(C)]
+struct ForeignLimit {
+    any: bool,
+    at_most: u64,
+}
+
+/// A group's limits across the border.
+#[cfg(feature = "narrow")]
+#[repr(C)]
+struct ForeignLimits {
+    deviation: ForeignLimit,
+    spread: ForeignLimit,
+}
+
+extern "C" {
+    fn danivomel_level(
+        lows: *const u64,
+        lows_count: usize,
+        highs: *const u64,
+        highs_count: usize,
+        total: u64,
+        plan: *mut u64,
+        plan_count: usize,
+    ) -> ForeignLevelled;
+
+    #[cfg(feature = "narrow")]
+    fn danivomel_narrow(
+        lows: *mut u64,
+        lows_count: usize,
+        highs: *mut u64,
+        highs_count: usize,
+        total: u64,
+        limits: ForeignLimits,
+    ) -> Refusal;
+}
+
+/// A refusal as an error, and number 0 as none.
+fn accepted(refusal: Refusal) -> Result<(), Refusal> {
+    match refusal.number {
+        0 => Ok(()),
+        _ => Err(refusal),
+    }
+}
+
+/// Levels a group: writes the most even shares within the lows and highs that add up to the total to the first numbers
+/// of the plan, and answers the level and the figures.
+///
+/// Refuses 1 for lists empty, of unequal length, over 256, or a plan shorter than the group; 4 for a number beyond its
+/// range; 7 for a low above its high; 11 for a total out of reach.
+///
+/// ```
+/// use danivomel_tests::planner::level;
+/// let mut plan = [0; 4];
+/// let levelled = level(&[8, 4, 1, 3], &[10, 7, 5, 4], 20, &mut plan).unwrap();
+/// assert_eq!((plan, levelled.deviation.0, levelled.spread.0), ([8, 4, 4, 4], 24, 48));
+/// ```
+pub fn level(lows: &[u64], highs: &[u64], total: u64, plan: &mut [u64]) -> Result<Levelled, Refusal> {
+    // SAFETY: each pointer and count is a slice's, and no other slice overlaps the plan, which is borrowed mutably.
+    let answer = unsafe {
+        danivomel_level(lows.as_ptr(), lows.len(), highs.as_ptr(), highs.len(), total, plan.as_mut_ptr(), plan.len())
+    };
+    accepted(answer.refusal)?;
+    Ok(Levelled { level: answer.level, deviation: answer.deviation, spread: answer.spread })
+}
+
+/// Narrows a group in place: leaves for each member exactly the values that some plan takes, where a plan is a choice
+/// of shares within the lows and highs at the call that add up to the total and are within both limits.
+///
+/// Refuses 1 for lists empty, of unequal length, or over 256; 4 for a number beyond its range; 7 for a low above its
+/// high; 11 for a total out of reach; 12 where shares exist and none is within the limits.
+///
+/// ```
+/// use danivomel_tests::{answers::{Limit, Limits}, planner::narrow};
+/// let (mut lows, mut highs) = ([8, 4, 1, 3], [10, 7, 5, 4]);
+/// let limits = Limits { deviation: Limit::AtMost(28), spread: Limit::Any };
+/// narrow(&mut lows, &mut highs, 20, limits).unwrap();
+/// assert_eq!((lows, highs), ([8, 4, 3, 3], [8, 5, 5, 4]));
+/// ```
+#[cfg(feature = "narrow")]
+pub fn narrow(lows: &mut [u64], highs: &mut [u64], total: u64, limits: Limits) -> Result<(), Refusal> {
+    let limits = ForeignLimits { deviation: across(limits.deviation), spread: across(limits.spread) };
+    // SAFETY: each pointer and count is a slice's, and the slices do not overlap, since both are borrowed mutably.
+    accepted(unsafe { danivomel_narrow(lows.as_mut_ptr(), lows.len(), highs.as_mut_ptr(), highs.len(), total, limits) })
+}
+
+/// A limit as it crosses the border.
+#[cfg(feature = "narrow")]
+fn across(limit: Limit) -> ForeignLimit {
+    match limit {
+        Limit::Any => ForeignLimit { any: true, at_most: 0 },
+        Limit::AtMost(at_most) => ForeignLimit { any: false, at_most },
+    }
+}
