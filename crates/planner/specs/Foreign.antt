@@ -8,6 +8,8 @@ use Rattle.model.specs.declared.Refusal.{Refusal}
 use Rattle.group.specs.declared.Levelling.{Levelling}
 use Rattle.group.specs.declared.Levelling.the-variants.{Levelled, Refused}
 use Rattle.group.specs.declared.Narrowing.{Narrowing}
+use Rattle.job.specs.declared.Reading.{Reading}
+use Rattle.planner.specs.declared.ForeignRead.{ForeignRead}
 use Rattle.planner.specs.declared.ForeignLimit.{ForeignLimit}
 use Rattle.planner.specs.declared.ForeignLimits.{ForeignLimits}
 use Rattle.planner.specs.declared.ForeignRefusal.{ForeignRefusal}
@@ -46,3 +48,8 @@ limitsOf limits = record { deviation = limitOf (limits .deviation); spread = lim
 abbrev pub foreignNarrowed : Narrowing → ForeignRefusal
 foreignNarrowed Narrowing.Narrowed = accepted
 foreignNarrowed (Narrowing.Refused refusal) = foreignRefusal refusal
+
+-- a reading; on a refusal the counts are 0
+abbrev pub foreignRead : Reading → ForeignRead
+foreignRead (Reading.Read units groups) = record { refusal = accepted; units = units; groups = groups }
+foreignRead (Reading.Refused refusal) = record { refusal = foreignRefusal refusal; units = 0; groups = 0 }

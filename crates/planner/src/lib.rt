@@ -1,6 +1,7 @@
 // The planner's calls for C and Rust, on numbers and slices; include/danivomel.h documents them.
 use group::Levelling;
 use group::Narrowing;
+use job::Reading;
 use model::Limit;
 use model::Limits;
 use model::Refusal;
@@ -10,7 +11,8 @@ ghost use Rattle.model.specs.Levels.{levelled};
 ghost use Rattle.model.specs.Plans.{narrowedLows, narrowedHighs};
 ghost use Rattle.group.specs.Levelling.{levelling, planAfter};
 ghost use Rattle.group.specs.Narrowing.{narrowing, listAfter};
-ghost use Rattle.planner.specs.Foreign.{foreignRefusal, foreignLevelled, foreignNarrowed, limitOf, limitsOf};
+ghost use Rattle.job.specs.Reading.{readingOf, readTable, lowsAfter, highsAfter};
+ghost use Rattle.planner.specs.Foreign.{foreignRefusal, foreignLevelled, foreignNarrowed, foreignRead, limitOf, limitsOf};
 
 // A refusal; number 0 says that there is none.
 #[repr(C)]
@@ -52,6 +54,14 @@ pub struct ForeignLevelled {
     pub level: u64,
     pub deviation: ForeignDeviation,
     pub spread: ForeignSpread,
+}
+
+// What reading a job text answers.
+#[repr(C)]
+pub struct ForeignRead {
+    pub refusal: ForeignRefusal,
+    pub units: usize,
+    pub groups: usize,
 }
 
 // A refusal as it crosses.
@@ -149,4 +159,36 @@ pub extern "C" fn danivomel_narrow(
     };
     let answer = group::narrow(lows, highs, total, both);
     narrowing_out(answer)
+}
+
+// A reading as it crosses.
+fn reading_out(answer: Reading) -> ForeignRead
+    ensures { λ r. ⌜ r ≡ foreignRead answer ⌝ }
+{
+    match answer {
+        Reading::Read { units, groups } => ForeignRead {
+            refusal: ForeignRefusal {
+                number: 0,
+                place: 0,
+            },
+            units,
+            groups,
+        },
+        Reading::Refused(refusal) => ForeignRead {
+            refusal: refusal_out(refusal),
+            units: 0,
+            groups: 0,
+        },
+    }
+}
+
+// Reads a job text into a table, as job::read does.
+#[no_mangle]
+pub extern "C" fn danivomel_read(text: &[u8], lows: &mut [u64], highs: &mut [u64]) -> ForeignRead
+    ensures { λ r. ⌜ r ≡ foreignRead (readingOf (readTable (now (text .entry)) (length (now (lows .entry))) (length (now (highs .entry))))) ⌝ }
+    ensures { λ _. ⌜ now (lows .exit) ≡ lowsAfter (readTable (now (text .entry)) (length (now (lows .entry))) (length (now (highs .entry)))) (now (lows .entry)) ⌝ }
+    ensures { λ _. ⌜ now (highs .exit) ≡ highsAfter (readTable (now (text .entry)) (length (now (lows .entry))) (length (now (highs .entry)))) (now (highs .entry)) ⌝ }
+{
+    let answer = job::read(text, lows, highs);
+    reading_out(answer)
 }
