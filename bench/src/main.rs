@@ -1,13 +1,13 @@
 //! The benchmark: the proved planner beside plain Rust, Gecode and document 001's rule, on the same jobs in the same
 //! run. Writes bench/results and the tables of docs/BENCHMARKS.md.
 
-mod breakpoints;
 mod chart;
 mod charts;
 mod check;
 mod gecode;
 mod jobs;
 mod page;
+mod plain;
 mod planners;
 mod rational;
 mod table;
@@ -46,8 +46,11 @@ fn main() -> io::Result<()> {
     let (paper, rows) = work::paper::run();
     tables.extend(paper);
     let run = format!(
-        "Seed {}; {} {}, {} cores, load {began} at the start; {} answers compared, none different; {:.0} s.",
+        "Seed {}; the planner takes part in: {}; exact narrowing is by {}; {} {}, {} cores, load {began} at the start; \
+         {} answers compared, none different; {:.0} s.",
         jobs::SEED,
+        planners::takes_part(),
+        planners::exact().0,
         std::env::consts::ARCH,
         std::env::consts::OS,
         std::thread::available_parallelism().map_or(1, usize::from),

@@ -1,8 +1,8 @@
 //! Who takes part, by name. The proved planner takes part with the calls that its archive has.
 
-use crate::breakpoints;
-use danivomel_tests::answers::{Level, Narrow, Read, Refusal, Report, Settle, Unsettled};
-use danivomel_tests::independent::{self, settle};
+use crate::plain;
+use danivomel_tests::answers::{Level, Narrow, Read, Report, Settle};
+use danivomel_tests::independent;
 #[cfg(feature = "level")]
 use danivomel_tests::planner;
 
@@ -10,8 +10,10 @@ use danivomel_tests::planner;
 pub const PLANNER: &str = "planner";
 /// The independent planner of tests/, in plain Rust: ends by bisection, each step a walk over the group.
 pub const BISECTION: &str = "plain Rust, bisection";
-/// The same in plain Rust with the bounds sorted once: ends by bisection, each step a look-up.
-pub const BREAKPOINTS: &str = "plain Rust, breakpoints";
+/// The same in plain Rust with the bounds sorted once: ends by bisection over values, each step a look-up.
+pub const PROBES: &str = "plain Rust, breakpoints";
+/// The same with ends by bisection over the bounds first, each step of constant cost.
+pub const ROWS: &str = "plain Rust, rows";
 /// Gecode with the figures posted about the mean: making the variables, posting and propagating.
 pub const GECODE: &str = "Gecode";
 /// Of that, the propagation alone.
@@ -30,7 +32,8 @@ pub const LEVELS: &[(&str, Level)] = &[
 /// Who narrows.
 pub const NARROWS: &[(&str, Narrow)] = &[
     (BISECTION, independent::narrow),
-    (BREAKPOINTS, breakpoints::narrow),
+    (PROBES, plain::narrow_by_probes),
+    (ROWS, plain::narrow_by_rows),
     #[cfg(feature = "narrow")]
     (PLANNER, planner::narrow),
 ];
@@ -45,7 +48,8 @@ pub const READS: &[(&str, Read)] = &[
 /// Who settles.
 pub const SETTLES: &[(&str, Settle)] = &[
     (BISECTION, independent::settle),
-    (BREAKPOINTS, settle_by_breakpoints),
+    (PROBES, plain::settle_by_probes),
+    (ROWS, plain::settle_by_rows),
     #[cfg(feature = "settle")]
     (PLANNER, planner::settle),
 ];
@@ -73,17 +77,4 @@ pub fn takes_part() -> String {
 /// The narrowing of the proved planner, or that of plain Rust as long as the archive has none, with its name.
 pub fn exact() -> (&'static str, Narrow) {
     NARROWS[NARROWS.len() - 1]
-}
-
-/// Settles in plain Rust with narrowing by breakpoints.
-fn settle_by_breakpoints(
-    text: &[u8],
-    lows: &mut [u64],
-    highs: &mut [u64],
-    scratch: &mut [u64],
-) -> Result<u64, Unsettled> {
-    let job = settle::check_job(text, lows, highs, scratch.len())
-        .map_err(|refusal: Refusal| Unsettled { refusal, passes: 0 })?;
-    let units = job.lows.len();
-    settle::settle_groups(&job.groups, &mut lows[..units], &mut highs[..units], breakpoints::narrow_members)
 }

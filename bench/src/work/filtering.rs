@@ -1,9 +1,9 @@
 //! How much Gecode's decomposition leaves: values that no plan takes, and refusals that it misses.
 
-use crate::breakpoints;
 use crate::check::{covers, same};
 use crate::gecode::{self, Form, Outcome, Posted};
 use crate::jobs::{group, Tightness, COMMON, SEED, SIZES};
+use crate::plain;
 use crate::planners::{exact, GECODE};
 use crate::table::{percent, Table};
 use crate::work::{lone, values};
@@ -21,12 +21,12 @@ pub fn run() -> Table {
         "members",
         "limits",
         "groups",
-        "values at the start",
-        "values that plans take",
-        "no plan takes, left by Gecode, about the mean",
-        "share of those that should go",
-        "no plan takes, left by Gecode, as written",
-        "share of those that should go, as written",
+        "values",
+        "taken by plans",
+        "left too many, about the mean",
+        "of those to go",
+        "left too many, as written",
+        "of those to go, as written",
     ];
     let mut table = Table::new("filtering", &head);
     for n in SIZES {
@@ -62,7 +62,7 @@ pub fn run() -> Table {
 fn narrowed(case: &GroupCase) -> GroupCase {
     let (mut after, mut expected) = (case.clone(), case.clone());
     let (name, narrow) = exact();
-    let answer = breakpoints::narrow(&mut expected.lows, &mut expected.highs, case.total, case.limits);
+    let answer = plain::narrow_by_probes(&mut expected.lows, &mut expected.highs, case.total, case.limits);
     same(name, "narrowing", narrow(&mut after.lows, &mut after.highs, case.total, case.limits), answer);
     same(name, "narrowed ranges", &after, &expected);
     after

@@ -3,7 +3,7 @@
 use crate::check::{covers, same};
 use crate::gecode::{self, Form, Outcome, Posted, Problem};
 use crate::jobs::{groups_of, Tightness, COMMON, SIZES};
-use crate::planners::{BISECTION, BREAKPOINTS, GECODE, GECODE_ALONE, NARROWS, PLANNER, SAME_WAY};
+use crate::planners::{BISECTION, GECODE, GECODE_ALONE, NARROWS, PLANNER, PROBES, ROWS, SAME_WAY};
 use crate::table::{digits, Table};
 use crate::timing::{in_turn, Contender, Times};
 use crate::work::lone;
@@ -29,6 +29,7 @@ pub fn run() -> (Table, Vec<Timed>) {
         "planner, µs",
         "plain Rust, bisection, µs",
         "plain Rust, breakpoints, µs",
+        "plain Rust, rows, µs",
         "Gecode, µs",
         "Gecode, propagation alone, µs",
         "planner / plain Rust, same way",
@@ -60,6 +61,7 @@ pub fn run_wide() -> Table {
         "planner, µs",
         "plain Rust, bisection, µs",
         "plain Rust, breakpoints, µs",
+        "plain Rust, rows, µs",
         "planner / plain Rust, same way",
     ];
     let mut table = Table::new("narrow_wide", &head);
@@ -88,7 +90,8 @@ fn row(n: usize, tightness: Tightness, first: bool, times: &Times) -> Vec<String
         if first { "first" } else { "quiet" }.to_string(),
         digits(times.of(PLANNER)),
         digits(times.of(BISECTION)),
-        digits(times.of(BREAKPOINTS)),
+        digits(times.of(PROBES)),
+        digits(times.of(ROWS)),
     ]
 }
 

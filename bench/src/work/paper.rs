@@ -1,10 +1,10 @@
 //! The experiment of document 001, section 8: inconsistent instances found, and the percentage of values filtered, by
 //! exact narrowing, by the paper's rule and by the decomposition. Shares are the paper's numbers plus 50.
 
-use crate::breakpoints;
 use crate::check::{covers, same};
 use crate::gecode::{self, Form, Outcome, Posted};
 use crate::jobs::SEED;
+use crate::plain;
 use crate::planners::exact;
 use crate::rational::{filter_on, filter_once};
 use crate::table::{digits, percent, Table};
@@ -132,7 +132,7 @@ fn try_one(row: &mut Row, case: &GroupCase) {
     };
     let (name, narrow) = exact();
     let mut expected = case.clone();
-    let answer = breakpoints::narrow(&mut expected.lows, &mut expected.highs, case.total, case.limits);
+    let answer = plain::narrow_by_probes(&mut expected.lows, &mut expected.highs, case.total, case.limits);
     let posted = Posted::of(&[lone(case)]);
     let filters: [&dyn Fn(&mut [u64], &mut [u64]) -> bool; FILTERS.len()] = [
         &|lows, highs| narrow(lows, highs, case.total, case.limits).is_ok(),

@@ -3,7 +3,7 @@
 use crate::check::{covers, same};
 use crate::gecode::{self, Form, Outcome, Posted, Problem};
 use crate::jobs::{job, slow_job};
-use crate::planners::{BISECTION, BREAKPOINTS, GECODE, GECODE_ALONE, PLANNER, SAME_WAY, SETTLES};
+use crate::planners::{BISECTION, GECODE, GECODE_ALONE, PLANNER, PROBES, ROWS, SAME_WAY, SETTLES};
 use crate::table::{digits, Table};
 use crate::timing::{in_turn, Contender};
 use crate::work::values;
@@ -33,11 +33,12 @@ pub fn run() -> Table {
         "planner, µs",
         "plain Rust, bisection, µs",
         "plain Rust, breakpoints, µs",
+        "plain Rust, rows, µs",
         "Gecode, µs",
         "Gecode, propagation alone, µs",
         "planner / plain Rust, same way",
         "planner, ns a member and turn",
-        "plain Rust, breakpoints, ns a member and turn",
+        "plain Rust, rows, ns a member and turn",
         "values that Gecode leaves too many",
     ];
     let mut table = Table::new("settle", &head);
@@ -55,12 +56,13 @@ pub fn run() -> Table {
             turns.to_string(),
             digits(times.of(PLANNER)),
             digits(times.of(BISECTION)),
-            digits(times.of(BREAKPOINTS)),
+            digits(times.of(PROBES)),
+            digits(times.of(ROWS)),
             digits(times.of(GECODE)),
             digits(times.of(GECODE_ALONE)),
             digits(times.ratio(PLANNER, SAME_WAY)),
             a_visit(times.of(PLANNER)),
-            a_visit(times.of(BREAKPOINTS)),
+            a_visit(times.of(ROWS)),
             left,
         ]);
     }
