@@ -10,9 +10,10 @@ use lib.ListN.{length, getD, drop, drop-of-length-le}
 use lib.Seq.{drop-cons}
 use Rattle.model.specs.Shares.{pick, greatestShare}
 use Rattle.group.specs.Checks.{firstFailing, areShares, firstBeyond, firstCrossed, sized, refuseIf, checkLists}
-use Rattle.group.specs.Sound.{Sound, greatestCount, sound, both}
+use Rattle.group.specs.Sound.{Sound, greatestCount, sound}
 use Rattle.group.specs.declared.Check.{Check}
 use Rattle.group.specs.declared.Check.the-variants.{Passed}
+use Rattle.model.specs.Laws.Tests.{both-left, both-right}
 use Rattle.model.specs.Laws.Lists.{ranges-of}
 use borrow.Author.Tests.{leb-true, ltb-false, eqb-true, not-false}
 use lib.Dec.{leb, ltb, eqb}
@@ -62,14 +63,13 @@ pub record Sized (count other room : ℕ) : Type 0 where
 
 pub sized-of : (count other room : ℕ) → sized count other room ≡ true → Sized count other room
 sized-of count other room held =
-    let first = both _ _ held in
-    let second = both (eqb count other) _ (first .1) in
-    let third = both (leb count greatestCount) (leb count room) (second .1) in
+    let second = both-right (leb 1 count) _ held in
+    let third = both-right (eqb count other) _ second in
     record {
-      some = leb-true _ _ (first .0);
-      paired = eqb-true _ _ (second .0);
-      few = leb-true _ _ (third .0);
-      fits = leb-true _ _ (third .1);
+      some = leb-true _ _ (both-left _ _ held);
+      paired = eqb-true _ _ (both-left _ _ second);
+      few = leb-true _ _ (both-left _ _ third);
+      fits = leb-true _ _ (both-right (leb count greatestCount) _ third);
     }
 
 refuse-passed : (b : Bool) (number place : ℕ) (next : Check) → refuseIf b number place next ≡ Passed → (b ≡ false) × (next ≡ Passed)
@@ -90,7 +90,7 @@ passed-sound lows highs room amounts held =
     let crossed : firstCrossed lows highs ≡ 0 = omega (arith, ltb-false 0 (firstCrossed lows highs) (fourth .0)) in (
       sound
           (ranges-of lows highs (sym (lengths .paired))
-          (λ i h. (leb-true _ _ (first-none leb 0 lows highs (sym (lengths .paired)) crossed i h), leb-true _ _ (both (leb (getD lows i 0) greatestShare) _ (first-none areShares 0 lows highs (sym (lengths .paired)) beyond i h) .1))))
+          (λ i h. (leb-true _ _ (first-none leb 0 lows highs (sym (lengths .paired)) crossed i h), leb-true _ _ (both-right (leb (getD lows i 0) greatestShare) _ (first-none areShares 0 lows highs (sym (lengths .paired)) beyond i h)))))
           (lengths .few),
       lengths .fits,
     )

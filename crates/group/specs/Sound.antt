@@ -1,16 +1,18 @@
 -- The lists that the inner functions ask for, and how large their sums are. Assumes nothing.
-use Prim.Native.Nat.{ℕ, _-_, _*_, _≤_}
-use mathlib.Core.Bool.{Bool, true, false, _&&_}
+use Prim.Native.Nat.{ℕ, _*_, _≤_, _<_}
+use mathlib.Core.Bool.{true}
 use borrow.Author.Tests.{leb-true}
 use lib.Dec.{leb}
 use mathlib.Core.List.{List}
-use mathlib.Core.Path.{_≡_, refl, sym}
+use mathlib.Core.Path.{_≡_, sym}
 use native.Mathlib.Omega.{arith}
-use lib.ListN.{length}
+use lib.ListN.{length, set, length-set}
 use Rattle.model.specs.Shares.{Ranges, greatestShare, sum}
 use Rattle.model.specs.Levels.{totalAt, clamped, level, topped, remainder, levelled}
 use Rattle.model.specs.Plans.{hasShares}
+use Rattle.model.specs.Laws.Tests.{both-left, both-right}
 use Rattle.model.specs.Laws.Lists.{ranges-length, within-length}
+use Rattle.model.specs.Laws.Pinned.{pinned-ranges}
 use Rattle.model.specs.Laws.Levelled.{levelled-adds, levelled-within}
 use Rattle.model.specs.Laws.Level.{totalAt-cons, totalAt-least, totalAt-greatest, clamp-at-most}
 
@@ -30,6 +32,11 @@ pub record Sound (lows highs : List ℕ) : Type 0 where
 
 pub sound : {lows highs : List ℕ} → Ranges lows highs → length lows ≤ greatestCount → Sound lows highs
 sound ranges few = record { ranges = ranges; paired = ranges-length ranges; few = few }
+
+-- a member pinned to a share leaves them sound
+pub pinned-sound : {lows highs : List ℕ} → Sound lows highs → (i : ℕ) → i < length lows → (v : ℕ) → v ≤ greatestShare
+    → Sound (set lows i v) (set highs i v)
+pinned-sound {lows} s i below v share = sound (pinned-ranges (s .ranges) i below v share) (rw (length-set lows i v) (s .few))
 
 -- T(v) is at most n times the greatest share
 totalAt-bound : {lows highs : List ℕ} → Ranges lows highs → (v : ℕ) → totalAt lows highs v ≤ length lows * greatestShare
@@ -54,15 +61,10 @@ pub record HasShares (lows highs : List ℕ) (total : ℕ) : Type 0 where
   pub low : sum lows ≤ total
   pub high : total ≤ sum highs
 
--- two tests hold where both do
-pub both : (a b : Bool) → a && b ≡ true → (a ≡ true) × (b ≡ true)
-both true b held = (refl, held)
-both false b held = (held, cc)
-
+-- where the test finds shares, they exist
 pub has-shares : {lows highs : List ℕ} → Sound lows highs → (total : ℕ) → hasShares lows highs total ≡ true → HasShares lows highs total
 has-shares {lows} {highs} s total exist =
-    let held = both (leb (sum lows) total) (leb total (sum highs)) exist in
-    record { sound = s; low = leb-true _ _ (held .0); high = leb-true _ _ (held .1) }
+    record { sound = s; low = leb-true _ _ (both-left _ _ exist); high = leb-true _ _ (both-right (leb (sum lows) total) _ exist) }
 
 -- the shares at the level, with the copies left over handed out, are the levelled shares
 pub levelled-is : (lows highs : List ℕ) (total v left : ℕ) → v ≡ level lows highs total → left ≡ remainder lows highs total

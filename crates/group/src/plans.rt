@@ -18,7 +18,7 @@ ghost use Rattle.group.specs.Sound.{Sound};
 ghost use Rattle.group.specs.Figures.{figuresOf};
 
 // The difference of two numbers.
-fn apart(a: u64, b: u64) -> u64
+pub(crate) fn apart(a: u64, b: u64) -> u64
     ensures { λ r. ⌜ r ≡ apart a b ⌝ }
 {
     if a <= b {

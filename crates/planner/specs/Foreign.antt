@@ -1,7 +1,15 @@
 -- The planner's answers as C and Rust get them: structs of numbers, with refusal number 0 where there is none. Assumes nothing.
+use mathlib.Core.Bool.{Bool}
+use Rattle.model.specs.Shares.{pick}
+use Rattle.model.specs.declared.Limit.{Limit}
+use Rattle.model.specs.declared.Limit.the-variants.{Any, AtMost}
+use Rattle.model.specs.declared.Limits.{Limits}
 use Rattle.model.specs.declared.Refusal.{Refusal}
 use Rattle.group.specs.declared.Levelling.{Levelling}
 use Rattle.group.specs.declared.Levelling.the-variants.{Levelled, Refused}
+use Rattle.group.specs.declared.Narrowing.{Narrowing}
+use Rattle.planner.specs.declared.ForeignLimit.{ForeignLimit}
+use Rattle.planner.specs.declared.ForeignLimits.{ForeignLimits}
 use Rattle.planner.specs.declared.ForeignRefusal.{ForeignRefusal}
 use Rattle.planner.specs.declared.ForeignLevelled.{ForeignLevelled}
 
@@ -26,3 +34,15 @@ foreignLevelled (Refused refusal) = record {
   deviation = record { value = 0 };
   spread = record { value = 0 };
 }
+
+-- a limit as it comes across
+abbrev pub limitOf : ForeignLimit → Limit
+limitOf limit = pick (limit .any) Any (AtMost (limit .«at_most»))
+
+abbrev pub limitsOf : ForeignLimits → Limits
+limitsOf limits = record { deviation = limitOf (limits .deviation); spread = limitOf (limits .spread) }
+
+-- a narrowing
+abbrev pub foreignNarrowed : Narrowing → ForeignRefusal
+foreignNarrowed Narrowing.Narrowed = accepted
+foreignNarrowed (Narrowing.Refused refusal) = foreignRefusal refusal

@@ -1,11 +1,16 @@
 // The planner's calls for C and Rust, on numbers and slices; include/danivomel.h documents them.
 use group::Levelling;
+use group::Narrowing;
+use model::Limit;
+use model::Limits;
 use model::Refusal;
 ghost use mathlib.Core.Path.{_≡_};
 ghost use lib.ListN.{length};
 ghost use Rattle.model.specs.Levels.{levelled};
+ghost use Rattle.model.specs.Plans.{narrowedLows, narrowedHighs};
 ghost use Rattle.group.specs.Levelling.{levelling, planAfter};
-ghost use Rattle.planner.specs.Foreign.{foreignRefusal, foreignLevelled};
+ghost use Rattle.group.specs.Narrowing.{narrowing, listAfter};
+ghost use Rattle.planner.specs.Foreign.{foreignRefusal, foreignLevelled, foreignNarrowed, limitOf, limitsOf};
 
 // A refusal; number 0 says that there is none.
 #[repr(C)]
@@ -24,6 +29,20 @@ pub struct ForeignDeviation {
 #[repr(C)]
 pub struct ForeignSpread {
     pub value: u64,
+}
+
+// A limit; any limits nothing, and the number is then not looked at.
+#[repr(C)]
+pub struct ForeignLimit {
+    pub any: bool,
+    pub at_most: u64,
+}
+
+// A group's limits.
+#[repr(C)]
+pub struct ForeignLimits {
+    pub deviation: ForeignLimit,
+    pub spread: ForeignLimit,
 }
 
 // What levelling answers.
@@ -85,4 +104,49 @@ pub extern "C" fn danivomel_level(
 {
     let answer = group::level(lows, highs, total, plan);
     levelling_out(answer)
+}
+
+// A limit as it came across.
+fn limit_in(limit: ForeignLimit) -> Limit
+    ensures { λ r. ⌜ r ≡ limitOf limit ⌝ }
+{
+    if limit.any {
+        return Limit::Any;
+    }
+    Limit::AtMost(limit.at_most)
+}
+
+// A narrowing as it crosses.
+fn narrowing_out(answer: Narrowing) -> ForeignRefusal
+    ensures { λ r. ⌜ r ≡ foreignNarrowed answer ⌝ }
+{
+    match answer {
+        Narrowing::Narrowed => ForeignRefusal {
+            number: 0,
+            place: 0,
+        },
+        Narrowing::Refused(refusal) => refusal_out(refusal),
+    }
+}
+
+// Narrows a group on lists, as group::narrow does.
+#[no_mangle]
+pub extern "C" fn danivomel_narrow(
+    lows: &mut [u64],
+    highs: &mut [u64],
+    total: u64,
+    limits: ForeignLimits,
+) -> ForeignRefusal
+    ensures { λ r. ⌜ r ≡ foreignNarrowed (narrowing (now (lows .entry)) (now (highs .entry)) total (limitsOf limits)) ⌝ }
+    ensures { λ _. ⌜ now (lows .exit) ≡ listAfter (narrowing (now (lows .entry)) (now (highs .entry)) total (limitsOf limits)) (narrowedLows (now (lows .entry)) (now (highs .entry)) total (limitsOf limits)) (now (lows .entry)) ⌝ }
+    ensures { λ _. ⌜ now (highs .exit) ≡ listAfter (narrowing (now (lows .entry)) (now (highs .entry)) total (limitsOf limits)) (narrowedHighs (now (lows .entry)) (now (highs .entry)) total (limitsOf limits)) (now (highs .entry)) ⌝ }
+{
+    let deviation = limits.deviation;
+    let spread = limits.spread;
+    let both = Limits {
+        deviation: limit_in(deviation),
+        spread: limit_in(spread),
+    };
+    let answer = group::narrow(lows, highs, total, both);
+    narrowing_out(answer)
 }

@@ -1,4 +1,5 @@
 pub mod Tables
+pub mod Flat
 pub mod Settling
 pub mod Consistency
 pub mod Known

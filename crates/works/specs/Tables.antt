@@ -48,6 +48,10 @@ pub record Inside (inner outer : Table) : Type 0 where
   pub above : (unit : ℕ) → lowOf outer unit ≤ lowOf inner unit
   pub below : (unit : ℕ) → highOf inner unit ≤ highOf outer unit
 
+-- each member is one of so many units
+pub record Named (count : ℕ) (members : List ℕ) : Type 0 where
+  pub below : (k : ℕ) → k < length members → getD members k 0 < count
+
 -- the members' entries, in the group's order
 unfoldable pub gather : List ℕ → List ℕ → List ℕ
 gather entries [] = []

@@ -1,1 +1,2 @@
 // Settling: many groups over shared units.
+pub mod members;

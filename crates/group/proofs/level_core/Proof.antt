@@ -1,3 +1,4 @@
+-- The level is a share, and its levelled shares are written; without shares nothing is. Assumes nothing.
 use borrow.Author.Needs.{needs}
 use borrow.Author.Tests.{not-true, not-false}
 use native.Mathlib.Omega.{arith}

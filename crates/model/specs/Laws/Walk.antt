@@ -1,11 +1,12 @@
 -- One step of a walk over the members: the sums and shares from member i on, by member i and those after it. Assumes nothing.
 use Prim.Native.Nat.{ℕ, suc, _+_, _-_, _≤_, _<_, min}
 use mathlib.Core.List.{List, [], _∷_, _++_, append-assoc, append-nil}
-use mathlib.Core.Path.{_≡_, refl}
+use mathlib.Core.Path.{_≡_, refl, sym, ap, _∙_}
+use native.Mathlib.Nat.{add-zero}
 use native.Mathlib.Numerals.{add-one}
 use native.Mathlib.Omega.{arith}
 use lib.ListN.{length, getD, set, take, drop, length-set, drop-of-length-le, take-append-drop}
-use lib.Seq.{drop-cons, drop-drop, drop-set-lt, take-suc-set}
+use lib.Seq.{getD-drop, drop-cons, drop-drop, drop-set-lt, take-suc-set}
 use Rattle.model.specs.Shares.{sum, sumOf}
 use Rattle.model.specs.Levels.{clamp, growth, totalAt, topped}
 use Rattle.model.specs.Laws.Level.{totalAt-cons}
@@ -81,3 +82,22 @@ written-all lows highs v left rest i was plan end held =
     let first : take i plan ≡ topped lows highs v left =
     rw (drop-of-length-le lows {i = i} (omega arith), append-nil) at (held .first) in
     rw (← end, ← first, ← held .others, take-append-drop)
+
+-- the shares of the members from i on, rest copies still to hand out
+abbrev pub Ahead : List ℕ → List ℕ → ℕ → ℕ → ℕ → ℕ → Type 0
+Ahead lows highs v left rest i = drop i (topped lows highs v left) ≡ topped (drop i lows) (drop i highs) v rest
+
+module _ (lows highs : List ℕ) (i : ℕ) (p : i < length lows) (q : i < length highs) (v left rest base more : ℕ)
+    (is-clamp : base ≡ clamp (getD lows i 0) (getD highs i 0) v) (is-growth : more ≡ min rest (growth (getD lows i 0) (getD highs i 0) v))
+    (held : Ahead lows highs v left rest i) where
+  -- member i's share and those after it
+  ahead-walk : drop i (topped lows highs v left) ≡ (base + more) ∷ topped (drop (i + 1) lows) (drop (i + 1) highs) v (rest - more)
+  ahead-walk = rw (is-clamp, is-growth) (held ∙ topped-walk lows highs i p q v rest)
+
+  -- member i's share
+  pub ahead-share : getD (topped lows highs v left) i 0 ≡ base + more
+  ahead-share = rw add-zero at (sym (getD-drop i (topped lows highs v left) 0 0)) ∙ ap (λ (l : List ℕ). getD l 0 0) ahead-walk
+
+  -- the shares after it
+  pub ahead-step : Ahead lows highs v left (rest - more) (i + 1)
+  ahead-step = sym (drop-drop 1 i (topped lows highs v left)) ∙ ap (λ (l : List ℕ). drop 1 l) ahead-walk

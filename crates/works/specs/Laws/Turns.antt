@@ -39,7 +39,7 @@ module _ (table : Table) (group : Group) (valid : Valid table) (sound : SoundGro
   counted h = omega (arith, gather-length (table .lows) (group .members))
 
   -- the members' ranges are ranges
-  gathered : Ranges (lowsOf table group) (highsOf table group)
+  pub gathered : Ranges (lowsOf table group) (highsOf table group)
   gathered =
       ranges-of (lowsOf table group) (highsOf table group)
       (omega (arith, gather-length (table .lows) (group .members), gather-length (table .highs) (group .members))) (λ k h.

@@ -1,0 +1,74 @@
+-- The ends that the search finds are those of the narrowed range. Assumes nothing.
+use Prim.Native.Nat.{ℕ, suc, _≤_, _<_}
+use mathlib.Core.Bool.{true, false}
+use mathlib.Core.List.{List}
+use mathlib.Core.Logic.{_≢_}
+use mathlib.Core.Path.{_≡_, sym, ap, _∙_}
+use native.Mathlib.Omega.{arith}
+use lib.ListN.{getD}
+use Rattle.model.specs.Shares.{greatestShare}
+use Rattle.model.specs.Plans.{taken, narrowedLow, narrowedHigh}
+use Rattle.model.specs.Laws.Ends.{low-unique, high-unique}
+use Rattle.model.specs.Laws.Lists.{ranges-at}
+use Rattle.model.specs.Laws.Tests.{clash}
+use Rattle.model.specs.declared.Limits.{Limits}
+use Rattle.group.specs.Edges.{Edge, Reach, Approach, Planned}
+
+module _ {lows highs : List ℕ} {total : ℕ} {limits : Limits} {i share : ℕ} (planned : Planned lows highs total limits i share) where
+  -- the member's range is one of shares
+  range : (getD lows i 0 ≤ getD highs i 0) × (getD highs i 0 ≤ greatestShare)
+  range = ranges-at (planned .member .sound .ranges) i (planned .member .here)
+
+  -- the ways from the share to the low and to the high
+  pub to-low : Approach lows highs total limits i (getD lows i 0) share
+  to-low = record { member = planned .member; small = omega (arith, range); share-small = omega (arith, range, planned .high); passes = planned .passes }
+
+  pub to-high : Approach lows highs total limits i (getD highs i 0) share
+  to-high = record { member = planned .member; small = range .1; share-small = omega (arith, range, planned .high); passes = planned .passes }
+
+  -- a low that is taken stays
+  low-stays : taken lows highs total limits i (getD lows i 0) ≡ true → getD lows i 0 ≡ narrowedLow lows highs total limits i
+  low-stays passes =
+      sym (low-unique (planned .member .sound .ranges) total limits (planned .found) i (planned .member .here) (getD lows i 0) (omega arith) (range .0) passes
+      (λ w next low. absurd (omega arith)))
+
+  -- a high that is taken stays
+  high-stays : taken lows highs total limits i (getD highs i 0) ≡ true → getD highs i 0 ≡ narrowedHigh lows highs total limits i
+  high-stays passes =
+      sym (high-unique (planned .member .sound .ranges) total limits (planned .found) i (planned .member .here) (getD highs i 0) (range .0) (omega arith) passes
+      (λ low. absurd (omega arith)))
+
+  -- a value that is not taken is not the share
+  not-share : (v : ℕ) → taken lows highs total limits i v ≡ false → v ≢ share
+  not-share v fails same = clash (planned .passes) (ap (taken lows highs total limits i) (sym same) ∙ fails)
+
+  -- from a low that is not taken, the search finds the narrowed low
+  low-found : taken lows highs total limits i (getD lows i 0) ≡ false
+      → (r : ℕ) → Edge (taken lows highs total limits i) (getD lows i 0) share r → r ≡ narrowedLow lows highs total limits i
+  low-found fails r edge =
+      let less : getD lows i 0 < share = omega (arith, planned .low, not-share (getD lows i 0) fails) in
+      let place : (getD lows i 0 ≤ edge .outer) × (edge .outer < r) × (r ≤ share) = edge .straddle .rising less in
+      sym (low-unique (planned .member .sound .ranges) total limits (planned .found) i (planned .member .here) r (omega arith) (omega arith) (edge .straddle .passes)
+      (λ w next low.
+      let same : w ≡ edge .outer = omega arith in
+      rw same (edge .straddle .fails)))
+
+  -- from a high that is not taken, the search finds the narrowed high
+  high-found : taken lows highs total limits i (getD highs i 0) ≡ false
+      → (r : ℕ) → Edge (taken lows highs total limits i) (getD highs i 0) share r → r ≡ narrowedHigh lows highs total limits i
+  high-found fails r edge =
+      let more : share < getD highs i 0 = omega (arith, planned .high, not-share (getD highs i 0) fails) in
+      let place : (share ≤ r) × (r < edge .outer) × (edge .outer ≤ getD highs i 0) = edge .straddle .falling more in
+      let next : suc r ≡ edge .outer = omega arith in
+      sym (high-unique (planned .member .sound .ranges) total limits (planned .found) i (planned .member .here) r (omega arith) (omega arith) (edge .straddle .passes)
+      (λ high. rw next (edge .straddle .fails)))
+
+  -- what the search toward the low reaches is the narrowed low
+  pub low-reached : {r : ℕ} → Reach (taken lows highs total limits i) (getD lows i 0) share r → r ≡ narrowedLow lows highs total limits i
+  low-reached (Reach.whole passes) = low-stays passes
+  low-reached (Reach.part {r} fails edge) = low-found fails r edge
+
+  -- and toward the high, the narrowed high
+  pub high-reached : {r : ℕ} → Reach (taken lows highs total limits i) (getD highs i 0) share r → r ≡ narrowedHigh lows highs total limits i
+  high-reached (Reach.whole passes) = high-stays passes
+  high-reached (Reach.part {r} fails edge) = high-found fails r edge

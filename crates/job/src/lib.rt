@@ -1,0 +1,2 @@
+// Reading a job text.
+pub mod lines;

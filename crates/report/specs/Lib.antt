@@ -1,0 +1,6 @@
+pub mod Lines
+pub mod Reports
+pub mod Ready
+pub mod Lengths
+pub mod Evenness
+pub mod Known

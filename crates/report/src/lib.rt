@@ -1,0 +1,3 @@
+// The report of a settled job.
+pub mod groups;
+pub mod lines;

@@ -1,0 +1,7 @@
+pub mod Words
+pub mod Kinds
+pub mod Parsed
+pub mod Numbers
+pub mod Printed
+pub mod Spots
+pub mod Tests

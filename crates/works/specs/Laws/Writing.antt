@@ -1,0 +1,60 @@
+-- Loops that write a list: its first numbers one after another, or the entries of a group's members. Assumes nothing.
+use Prim.Native.Nat.{ℕ, zero, suc, _+_, _≤_, _<_}
+use mathlib.Core.List.{List, [], _∷_, _++_}
+use mathlib.Core.Path.{_≡_, refl, ap}
+use native.Mathlib.Nat.{le-of-suc-le-suc}
+use native.Mathlib.Numerals.{add-one}
+use native.Mathlib.Omega.{arith}
+use lib.ListN.{length, getD, set, take, drop, length-set, drop-of-length-le}
+use lib.Seq.{drop-cons, take-length}
+use Rattle.works.specs.Tables.{scatter}
+
+-- the first k of the values are written over the first numbers of a list
+pub record Filled (values was out : List ℕ) (k : ℕ) : Type 0 where
+  pub size : length out ≡ length was
+  pub written : out ≡ take k values ++ drop k was
+
+pub filled-none : (values was : List ℕ) → Filled values was was 0
+filled-none values was = record { size = refl; written = refl }
+
+-- the next value is written
+next-written : (k : ℕ) (values was : List ℕ) → k < length values → k < length was
+    → set (take k values ++ drop k was) k (getD values k 0) ≡ take (suc k) values ++ drop (suc k) was
+next-written k [] was p q = absurd (omega arith)
+next-written k (v ∷ values) [] p q = absurd (omega arith)
+next-written zero (v ∷ values) (w ∷ was) p q = refl
+next-written (suc k) (v ∷ values) (w ∷ was) p q =
+    ap (λ (out : List ℕ). v ∷ out) (next-written k values was (le-of-suc-le-suc p) (le-of-suc-le-suc q))
+
+pub filled-more : {values was out : List ℕ} {k : ℕ} → Filled values was out k → k < length values → k < length was
+    → (v : ℕ) → v ≡ getD values k 0 → Filled values was (set out k v) (k + 1)
+filled-more {values} {was} {out} {k} held p q v e = record {
+  size = rw length-set (held .size);
+  written = rw (held .written, e, add-one k) (next-written k values was p q);
+}
+
+pub filled-all : {values was out : List ℕ} {k : ℕ} → Filled values was out k → k ≡ length values
+    → out ≡ values ++ drop (length values) was
+filled-all {values} held end = rw (held .written, end, take-length values)
+
+-- the entries of the first k members are replaced: the others' are still to come
+pub record Scattered (members values was entries : List ℕ) (k : ℕ) : Type 0 where
+  pub size : length entries ≡ length was
+  pub rest : scatter entries (drop k members) (drop k values) ≡ scatter was members values
+
+pub scattered-none : (members values was : List ℕ) → Scattered members values was was 0
+scattered-none members values was = record { size = refl; rest = refl }
+
+pub scattered-more : {members values was entries : List ℕ} {k : ℕ} → Scattered members values was entries k
+    → k < length members → length values ≡ length members
+    → Scattered members values was (set entries (getD members k 0) (getD values k 0)) (k + 1)
+unfolding scatter
+scattered-more {members} {values} {was} {entries} {k} held p q = record {
+  size = rw length-set (held .size);
+  rest = rw (← held .rest, add-one k, drop-cons members k 0 p, drop-cons values k 0 (omega arith));
+}
+
+pub scattered-all : {members values was entries : List ℕ} {k : ℕ} → Scattered members values was entries k
+    → length members ≤ k → entries ≡ scatter was members values
+unfolding scatter
+scattered-all {members} {k} held end = rw (← held .rest, drop-of-length-le members end)
