@@ -4,9 +4,9 @@
 use std::time::Instant;
 
 /// The seconds that one comparison may take, where its calls are short enough; and those of a trial.
-const SECONDS: (f64, f64) = (1.2, 0.05);
+const SECONDS: (f64, f64) = (2.0, 0.05);
 /// The fewest and the most rounds.
-const ROUNDS: (f64, f64) = (5.0, 101.0);
+const ROUNDS: (f64, f64) = (7.0, 201.0);
 /// The microseconds of a contender's turn in a round, or one call: short, so that other work hits few rounds.
 const TURN: f64 = 300.0;
 /// A contender's turn is at least this part of the slowest one's, so that what interrupts both weighs the same.

@@ -15,20 +15,22 @@ fn count(n: usize) -> usize {
     (6_400 / n).clamp(20, 200)
 }
 
+/// The columns of the table of values left.
+const HEAD: [&str; 9] = [
+    "members",
+    "limits",
+    "groups",
+    "values",
+    "taken by plans",
+    "left too many, about the mean",
+    "of those to go",
+    "left too many, as written",
+    "of those to go, as written",
+];
+
 /// Values left that no plan takes.
 pub fn run() -> Table {
-    let head = [
-        "members",
-        "limits",
-        "groups",
-        "values",
-        "taken by plans",
-        "left too many, about the mean",
-        "of those to go",
-        "left too many, as written",
-        "of those to go, as written",
-    ];
-    let mut table = Table::new("filtering", &head);
+    let mut table = Table::new("filtering", &HEAD);
     for n in SIZES {
         for tightness in [Tightness::Loose, Tightness::Tight] {
             let mut random = Random::new(SEED + 10_000 + n as u64);

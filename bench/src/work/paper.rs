@@ -8,7 +8,7 @@ use crate::plain;
 use crate::planners::exact;
 use crate::rational::{filter_on, filter_once};
 use crate::table::{digits, percent, Table};
-use crate::timing::is_trial;
+use crate::timing::{is_trial, median};
 use crate::work::{lone, values};
 use danivomel_tests::answers::{Limit, Limits};
 use danivomel_tests::cases::groups::GroupCase;
@@ -34,18 +34,18 @@ const PUBLISHED_PART: (u64, &str) = (400, "99.66 %");
 const PUBLISHED_FILTERED: (u64, [&str; 2]) = (500, ["11.8 %", "0.9 %"]);
 
 /// What one filter did on the instances of one maximum.
-#[derive(Clone, Copy, Default)]
+#[derive(Default)]
 pub struct Found {
     /// Inconsistent instances found.
     pub refused: u64,
     /// Values removed from consistent instances, in parts of their values, added up.
     pub filtered: f64,
-    /// Microseconds spent.
-    pub time: f64,
+    /// Microseconds spent on each instance.
+    times: Vec<f64>,
 }
 
 /// What all filters did on the instances of one maximum.
-#[derive(Clone, Copy, Default)]
+#[derive(Default)]
 pub struct Row {
     pub instances: u64,
     pub found: [Found; FILTERS.len()],
@@ -64,7 +64,7 @@ impl Row {
         for (own, other) in self.found.iter_mut().zip(other.found) {
             own.refused += other.refused;
             own.filtered += other.filtered;
-            own.time += other.time;
+            own.times.extend(other.times);
         }
         self
     }
@@ -120,43 +120,50 @@ fn tried(sets: &[GroupCase], most: u64) -> Row {
     let mut row = Row::default();
     for set in sets {
         let case = set.clone().under(Limit::AtMost(VARIABLES * most), Limit::Any);
-        try_one(&mut row, &case);
+        try_one(&mut row, &case, VARIABLES * most);
     }
     row
 }
 
+/// A filter: narrows domains, and says whether it found no inconsistency.
+type Filter<'a> = &'a dyn Fn(&mut [u64], &mut [u64]) -> bool;
+
 /// Lets every filter work on one instance.
-fn try_one(row: &mut Row, case: &GroupCase) {
-    let Limit::AtMost(limit) = case.limits.deviation else {
-        return;
-    };
-    let (name, narrow) = exact();
+fn try_one(row: &mut Row, case: &GroupCase, limit: u64) {
     let mut expected = case.clone();
     let answer = plain::narrow_by_probes(&mut expected.lows, &mut expected.highs, case.total, case.limits);
+    let expected = answer.is_ok().then_some(expected);
     let posted = Posted::of(&[lone(case)]);
-    let filters: [&dyn Fn(&mut [u64], &mut [u64]) -> bool; FILTERS.len()] = [
-        &|lows, highs| narrow(lows, highs, case.total, case.limits).is_ok(),
+    let filters: [Filter; FILTERS.len()] = [
+        &|lows, highs| exact().1(lows, highs, case.total, case.limits).is_ok(),
         &|lows, highs| filter_once(lows, highs, case.total, limit),
         &|lows, highs| filter_on(lows, highs, case.total, limit),
         &|lows, highs| gecode::propagate(&posted, lows, highs, Form::Written).0 != Outcome::Refused,
     ];
     row.instances += 1;
-    for (index, filter) in filters.iter().enumerate() {
+    for ((filter, name), found) in filters.into_iter().zip(FILTERS).zip(&mut row.found) {
+        let after = found.try_filter(filter, case);
+        if name == FILTERS[0] {
+            same(exact().0, "narrowed domains", &after, &expected);
+        }
+        if let Some(taken) = &expected {
+            let left = after.expect("no filter refuses a consistent instance");
+            covers(name, "filtering", (&left.lows, &left.highs), (&taken.lows, &taken.highs));
+            let (all, left) = (values(&case.lows, &case.highs), values(&left.lows, &left.highs));
+            found.filtered += (all - left) as f64 / all as f64;
+        }
+    }
+}
+
+impl Found {
+    /// Lets the filter work on a copy of an instance, and times it; the domains left, if it finds no inconsistency.
+    fn try_filter(&mut self, filter: Filter, case: &GroupCase) -> Option<GroupCase> {
         let mut after = case.clone();
         let start = Instant::now();
         let consistent = filter(&mut after.lows, &mut after.highs);
-        row.found[index].time += start.elapsed().as_secs_f64() * 1e6;
-        row.found[index].refused += u64::from(!consistent);
-        if index == 0 {
-            same(name, "inconsistency", consistent, answer.is_ok());
-            same(name, "narrowed domains", &after, &expected);
-        }
-        if answer.is_ok() {
-            same(FILTERS[index], "a consistent instance", consistent, true);
-            covers(FILTERS[index], "filtering", (&after.lows, &after.highs), (&expected.lows, &expected.highs));
-            let (start, left) = (values(&case.lows, &case.highs), values(&after.lows, &after.highs));
-            row.found[index].filtered += (start - left) as f64 / start as f64;
-        }
+        self.times.push(start.elapsed().as_secs_f64() * 1e6);
+        self.refused += u64::from(!consistent);
+        consistent.then_some(after)
     }
 }
 
@@ -214,9 +221,9 @@ fn filtered_table(rows: &[Row]) -> Table {
     })
 }
 
-/// Microseconds for an instance.
+/// Median microseconds for an instance.
 fn time_table(rows: &[Row]) -> Table {
     by_maximum("paper_time", rows, &[], |_, row| {
-        row.found.iter().map(|found| digits(Some(found.time / row.instances as f64))).collect()
+        row.found.iter().map(|found| digits(Some(median(found.times.clone())))).collect()
     })
 }

@@ -4,13 +4,13 @@ use crate::check::same;
 use crate::jobs::{long_text, sound_text};
 use crate::planners::{BISECTION, PLANNER, READS};
 use crate::table::{digits, Table};
-use crate::timing::{in_turn, Contender};
+use crate::timing::{in_turn, Contender, Times};
 use danivomel_tests::answers::Read;
 use danivomel_tests::independent::{self, MOST_UNITS};
 use std::hint::black_box;
 
 /// Times reading.
-pub fn run() -> Table {
+pub fn run() -> (Table, Vec<Times>) {
     let head = [
         "text",
         "bytes",
@@ -22,6 +22,7 @@ pub fn run() -> Table {
         "planner, ns a byte",
     ];
     let mut table = Table::new("read", &head);
+    let mut all = vec![];
     let texts = [
         ("1 KiB", sound_text(1_024)),
         ("8 KiB", sound_text(8 * 1_024)),
@@ -45,8 +46,9 @@ pub fn run() -> Table {
             digits(times.ratio(PLANNER, BISECTION)),
             digits(times.of(PLANNER).map(|time| 1_000.0 * time / text.len() as f64)),
         ]);
+        all.push(times);
     }
-    table
+    (table, all)
 }
 
 /// A contender that reads a text, after its answer was compared.

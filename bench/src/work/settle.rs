@@ -5,7 +5,7 @@ use crate::gecode::{self, Form, Outcome, Posted, Problem};
 use crate::jobs::{job, slow_job};
 use crate::planners::{BISECTION, GECODE, GECODE_ALONE, PLANNER, PROBES, ROWS, SAME_WAY, SETTLES};
 use crate::table::{digits, Table};
-use crate::timing::{in_turn, Contender};
+use crate::timing::{in_turn, Contender, Times};
 use crate::work::values;
 use danivomel_tests::answers::{Settle, Unsettled};
 use danivomel_tests::cases::jobs::print_job;
@@ -24,24 +24,27 @@ struct Case {
     highs: Vec<u64>,
 }
 
-/// Times settling.
-pub fn run() -> Table {
-    let head = [
-        "job",
-        "answer",
-        "turns",
-        "planner, µs",
-        "plain Rust, bisection, µs",
-        "plain Rust, breakpoints, µs",
-        "plain Rust, rows, µs",
-        "Gecode, µs",
-        "Gecode, propagation alone, µs",
-        "planner / plain Rust, same way",
-        "planner, ns a member and turn",
-        "plain Rust, rows, ns a member and turn",
-        "values that Gecode leaves too many",
-    ];
-    let mut table = Table::new("settle", &head);
+/// The columns of the table.
+const HEAD: [&str; 13] = [
+    "job",
+    "answer",
+    "turns",
+    "planner, µs",
+    "plain Rust, bisection, µs",
+    "plain Rust, breakpoints, µs",
+    "plain Rust, rows, µs",
+    "Gecode, µs",
+    "Gecode, propagation alone, µs",
+    "planner / plain Rust, same way",
+    "planner, ns a member and turn",
+    "plain Rust, rows, ns a member and turn",
+    "values that Gecode leaves too many",
+];
+
+/// Times settling; the times by job.
+pub fn run() -> (Table, Vec<(String, Times)>) {
+    let mut table = Table::new("settle", &HEAD);
+    let mut all = vec![];
     for case in cases() {
         let mut contenders: Vec<Contender> = SETTLES.iter().map(|who| contender(*who, &case)).collect();
         let left = compare_gecode(&case);
@@ -65,8 +68,9 @@ pub fn run() -> Table {
             a_visit(times.of(ROWS)),
             left,
         ]);
+        all.push((case.name.clone(), times));
     }
-    table
+    (table, all)
 }
 
 /// The jobs, settled.
