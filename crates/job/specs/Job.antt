@@ -38,6 +38,10 @@ mostGroups = 64
 abbrev pub mostMemberships : ℕ
 mostMemberships = 4096
 
+-- the numbers that the groups take in the flat list: 4 for each group, and the memberships
+abbrev pub mostFlat : ℕ
+mostFlat = 4352
+
 abbrev pub mostBytes : ℕ
 mostBytes = 65_536
 

@@ -12,6 +12,10 @@ use Rattle.job.specs.declared.lines.LimitRead.the-variants as limit-read
 use Rattle.job.specs.declared.lines.Head.{Head}
 use Rattle.job.specs.declared.lines.HeadRead.{HeadRead}
 use Rattle.job.specs.declared.lines.HeadRead.the-variants as head-read
+use Rattle.job.specs.declared.lines.Members.{Members}
+use Rattle.job.specs.Tally.{Tally, GroupTally}
+use Rattle.job.specs.declared.lines.GroupRead.{GroupRead}
+use Rattle.job.specs.declared.lines.GroupRead.the-variants as group-read
 
 -- a unit line and the spot after it
 abbrev pub unitSeen : List ℕ → UnitRead → Parsed UnitLine
@@ -27,3 +31,13 @@ limitSeen text limit-read.Missing = failed
 abbrev pub headSeen : List ℕ → HeadRead → Parsed Head
 headSeen text (head-read.Is head spot) = parsed head (drop (spot .at) text)
 headSeen text head-read.Missing = failed
+
+-- the members and the spot after them
+abbrev pub membersSeen : List ℕ → List ℕ → Members → Parsed Tally
+membersSeen text flat m = parsed (record { count = m .count; within = m .within; flat = flat }) (drop (m .next .at) text)
+
+-- a group line and the spot after it
+abbrev pub groupSeen : List ℕ → List ℕ → GroupRead → Parsed GroupTally
+groupSeen text flat (group-read.Is head m) =
+    parsed (record { head = head; tally = record { count = m .count; within = m .within; flat = flat } }) (drop (m .next .at) text)
+groupSeen text flat group-read.Missing = failed

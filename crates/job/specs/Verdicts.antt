@@ -4,9 +4,11 @@ use mathlib.Core.Bool.{Bool, true, false, _&&_}
 use mathlib.Core.List.{List, [], _∷_}
 use mathlib.Core.Path.{_≡_, refl}
 use native.Mathlib.Omega.{arith}
-use borrow.Author.Tests.{leb-true, ltb-true, eqb-true}
+use borrow.Author.Tests.{le-leb, leb-true, ltb-true, eqb-true}
 use lib.Dec.{leb, ltb, eqb}
 use Rattle.model.specs.Shares.{greatestShare}
+use Rattle.model.specs.declared.Limit.{Limit}
+use Rattle.model.specs.declared.Limit.the-variants.{Any, AtMost}
 use Rattle.model.specs.declared.Limits.{Limits}
 use Rattle.job.specs.Form.{UnitLine}
 use Rattle.job.specs.Job.{greatestTotal, greatestDeviation, greatestSpread, mostUnits, mostGroups, mostMemberships, limitUpTo, allNamed, distinct, unless, unitVerdict, headVerdict, membersVerdict, first}
@@ -66,3 +68,8 @@ members-good units ms h =
     let a = unless-zero (allNamed units ms) 7 _ h in
     let b = unless-zero (distinct ms) 8 _ (a .1) in
     record { all-named = a .0; all-distinct = b .0 }
+
+-- a limit up to a number is up to a greater one
+pub limit-wider : (a b : ℕ) (l : Limit) → a ≤ b → limitUpTo a l ≡ true → limitUpTo b l ≡ true
+limit-wider a b Any h e = refl
+limit-wider a b (AtMost v) h e = le-leb v b (omega (arith, leb-true v a e))

@@ -86,3 +86,13 @@ pub word-own : (w s : List ℕ) → word w (w ++ s) ≡ parsed tt s
 unfolding word
 word-own [] s = refl
 word-own (w ∷ ws) s = rw (eq-eqb w w refl) (word-own ws s)
+
+pub mapped-like : {A B : Type 0} (f g : A → B) (p : Parsed A) → ((a : A) → f a ≡ g a) → mapped f p ≡ mapped g p
+unfolding mapped
+mapped-like f g (parsed a s) h = rw (h a)
+mapped-like f g failed h = refl
+
+pub mapped-failed : {A B : Type 0} (f : A → B) (p : Parsed A) → mapped f p ≡ failed → p ≡ failed
+unfolding mapped
+mapped-failed f (parsed a s) h = absurd (let z : _≡_ {A = ℕ} 0 1 = cc in omega arith)
+mapped-failed f failed h = refl

@@ -4,6 +4,7 @@ use mathlib.Core.Bool.{Bool, true, false, _&&_}
 use mathlib.Core.List.{List, [], _∷_, _++_, append-assoc}
 use mathlib.Core.Path.{_≡_, refl, sym, ap, _∙_}
 use lib.Dec.{eqb, ltb, leb}
+use lib.ListN.{length, length-append}
 use native.Mathlib.Omega.{arith, sub-cases}
 use native.Mathlib.Nat.{div-add-mod', mod-lt, div-lt-self}
 use native.Mathlib.Decide.{decLt, decLe, ℕ-discrete}
@@ -11,8 +12,8 @@ use borrow.Author.Tests.{le-leb, lt-leb, ne-eqb, eq-eqb, lt-ltb, le-ltb, leb-tru
 use Rattle.model.specs.Shares.{pick}
 use Rattle.text.specs.Tests.{and-left, and-right}
 use Rattle.text.specs.Kinds.{kindOf}
-use Rattle.text.specs.Parsed.{Parsed, parsed, failed, mapped, word}
-use Rattle.text.specs.Numbers.{isDigit, digits, number, digitsOf, printNumber, most, held}
+use Rattle.text.specs.Parsed.{Parsed, parsed, failed, mapped, word, then-parsed, mapped-parsed, word-parsed}
+use Rattle.text.specs.Numbers.{isDigit, digits, number, numberAfter, digitsOf, printNumber, most, held}
 use Rattle.text.specs.declared.Kind.{Kind}
 use Rattle.text.specs.declared.Kind.the-variants.{Opening, Closing, Space, Digit, Letter, Foreign}
 
@@ -145,3 +146,24 @@ number-not-word w ws (b ∷ s) v t n h =
     is-there : (d : Bool) (p : Parsed ℕ) → pick d p failed ≡ parsed v t → d ≡ true
     is-there true p h = refl
     is-there false p h = absurd (let z : _≡_ {A = ℕ} 0 1 = cc in omega arith)
+
+printed-long : (v : ℕ) → 0 < length (printNumber v)
+printed-long v =
+    elim (decLt v 10) [
+      | yes p ↦ rw (print-one v p) (omega arith)
+      | no p ↦ rw (print-more v (omega arith)) (omega (arith, length-append (printNumber (v / 10)) ((48 + v % 10) ∷ [])))
+    ]
+
+-- a number has at least one byte
+pub number-shorter : (s : List ℕ) (v : ℕ) (t : List ℕ) → number s ≡ parsed v t → length t < length s
+number-shorter s v t h =
+    rw (printed-number s v t h) (omega (arith, length-append (printNumber v) t, printed-long v))
+
+-- so has a word with one after it
+pub number-after-shorter : (w s : List ℕ) (v : ℕ) (t : List ℕ) → mapped held (numberAfter w s) ≡ parsed v t → length t < length s
+unfolding numberAfter
+number-after-shorter w s v t h =
+    let m = mapped-parsed held (numberAfter w s) h in
+    let a = then-parsed (word w s) _ (m .1) in
+    let k = number-shorter (a .1) (m .0) t (a .3) in
+    omega (arith, ap length (word-parsed w s (a .2)), length-append w (a .1))

@@ -1,9 +1,13 @@
 -- The laws of settling, a file for each topic.
 pub mod Members
 pub mod Flat
+pub mod Few
 pub mod Writing
+pub mod Parts
 pub mod Inside
 pub mod Turns
+pub mod Turning
 pub mod Passes
+pub mod Running
 pub mod Ends
 pub mod Settled

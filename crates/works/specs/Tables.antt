@@ -13,6 +13,10 @@ pub record Table : Type 0 where
   pub lows : List ℕ
   pub highs : List ℕ
 
+-- the table of these lows and highs
+abbrev pub tableOf : List ℕ → List ℕ → Table
+tableOf lows highs = record { lows = lows; highs = highs }
+
 -- 01: each "with low at most high"
 abbrev pub Valid : Table → Type 0
 Valid table = Ranges (table .lows) (table .highs)

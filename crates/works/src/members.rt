@@ -1,15 +1,13 @@
 // The ranges of a group's members in the table: gathered, and written back.
-ghost use Prim.Native.Nat.{_+_, _≤_};
-ghost use mathlib.Core.List.{_++_};
 ghost use mathlib.Core.Path.{_≡_};
-ghost use lib.ListN.{length, drop};
+ghost use lib.ListN.{length};
 ghost use Rattle.works.specs.Tables.{Named, gather, scatter};
 
-// Writes the members' entries over the first numbers of a list.
+// Writes the members' entries over a list.
 pub fn gather(entries: &[u64], members: &[u64], out: &mut [u64])
     requires { ⌜ Named (length (now entries)) (now members) ⌝ }
-    requires { ⌜ length (now members) ≤ length (now out) ⌝ }
-    ensures { λ _. ⌜ now (out .exit) ≡ gather (now (entries .entry)) (now (members .entry)) ++ drop (length (now (members .entry))) (now (out .entry)) ⌝ }
+    requires { ⌜ length (now out) ≡ length (now members) ⌝ }
+    ensures { λ _. ⌜ now (out .exit) ≡ gather (now (entries .entry)) (now (members .entry)) ⌝ }
 {
     let mut k: usize = 0;
     while k < members.len() {

@@ -1,7 +1,8 @@
 -- A flat list of groups holds them whole, and gives them back. Assumes nothing.
-use Prim.Native.Nat.{ℕ, suc, _+_, _≤_}
+use Prim.Native.Nat.{ℕ, zero, suc, _-_}
 use mathlib.Core.List.{List, [], _∷_, _++_, append-assoc}
-use mathlib.Core.Path.{_≡_, refl}
+use mathlib.Core.Logic.{_≢_}
+use mathlib.Core.Path.{_≡_, refl, ap}
 use native.Mathlib.Omega.{arith}
 use lib.ListN.{length, length-append}
 use lib.Seq.{take-append-seam, drop-append-seam, drop-drop}
@@ -14,6 +15,11 @@ use Rattle.works.specs.Flat.{limitOf, groupAt, afterFirst, groupsIn, Hol
 limit-code : (limit : Limit) → limitOf (codeOf limit) ≡ limit
 limit-code Any = refl
 limit-code (AtMost most) = refl
+
+-- a number but 0 stands for a limit one lower
+pub limit-above : (code : ℕ) → code ≢ 0 → AtMost (code - 1) ≡ limitOf code
+limit-above zero some = absurd (some refl)
+limit-above (suc most) some = ap AtMost (omega arith)
 
 -- the first of some groups
 first : (g : Group) (groups : List Group) (rest : List ℕ) → groupAt (flatten (g ∷ groups) ++ rest) ≡ g

@@ -1,14 +1,15 @@
 -- Tables inside tables: an order, and the sum of widths falls with each change. Assumes nothing.
-use Prim.Native.Nat.{ℕ, suc, _+_, _≤_}
+use Prim.Native.Nat.{ℕ, suc, _+_, _-_, _≤_, _<_}
 use mathlib.Core.Bool.{true, false, true≢false, false≢true}
 use mathlib.Core.List.{List, [], _∷_}
 use mathlib.Core.Path.{_≡_, refl, sym, ap, _∙_}
 use native.Mathlib.Nat.{suc-inj}
+use native.Mathlib.Numerals.{add-one}
 use native.Mathlib.Omega.{arith}
 use borrow.Author.Tests.{eq-eqb, eqb-true}
 use lib.Dec.{eqb}
-use lib.ListN.{length, getD}
-use lib.Seq.{ext-getD}
+use lib.ListN.{length, getD, drop}
+use lib.Seq.{drop-cons, ext-getD}
 use Rattle.model.specs.Known.{sameList}
 use Rattle.model.specs.Laws.Lists.{sum-le}
 use Rattle.model.specs.Laws.Tests.{both-left, both-right}
@@ -72,10 +73,16 @@ pub changed : {a b : Table} → sameTable a b ≡ false → a ≡ b → ⊥
 changed {a} {b} test same = true≢false (sym (table-same b) ∙ (rw same at test))
 
 -- the sum of widths is the highs' sum less the lows'
-widths-sums : {lows highs : List ℕ} → Ranges lows highs → widths lows highs + sum lows ≡ sum highs
+pub widths-sums : {lows highs : List ℕ} → Ranges lows highs → widths lows highs + sum lows ≡ sum highs
 unfolding widths sum
 widths-sums Ranges.none = refl
 widths-sums (Ranges.also p q r) = omega (arith, widths-sums r)
+
+-- the sum of widths from unit i on is that unit's width and those after it
+pub widths-walk : (lows highs : List ℕ) (i : ℕ) → i < length lows → i < length highs
+    → widths (drop i lows) (drop i highs) ≡ (getD highs i 0 - getD lows i 0) + widths (drop (i + 1) lows) (drop (i + 1) highs)
+unfolding widths
+widths-walk lows highs i p q = rw (add-one, drop-cons lows i 0, drop-cons highs i 0)
 
 -- entries each at most another list's, with no lower sum, are that list's
 sum-same : (xs ys : List ℕ) → length xs ≡ length ys → ((i : ℕ) → getD xs i 0 ≤ getD ys i 0) → sum ys ≤ sum xs → xs ≡ ys

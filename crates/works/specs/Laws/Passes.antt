@@ -18,14 +18,14 @@ sound-inside {next} {table} sound valid inside =
     record { valid = valid; each = λ group member. rw (inside .sameLows) (sound .each group member) }
 
 -- the first of some groups, and the others
-first : {group : Group} {groups : List Group} → List·Memᴰ group (group ∷ groups)
+pub first : {group : Group} {groups : List Group} → List·Memᴰ group (group ∷ groups)
 first = List·Memᴰ·head refl
 
 sound-rest : {group : Group} {groups : List Group} {table : Table} → Sound (group ∷ groups) table → Sound groups table
 sound-rest sound = record { valid = sound .valid; each = λ g member. sound .each g (List·Memᴰ·tail member) }
 
 -- after a turn the other groups are sound
-sound-turn : {group : Group} {groups : List Group} {table middle : Table} → Sound (group ∷ groups) table
+pub sound-turn : {group : Group} {groups : List Group} {table middle : Table} → Sound (group ∷ groups) table
     → revise table group ≡ Revised.revised middle → Sound groups middle
 sound-turn {group} {table} sound turn =
     sound-inside (sound-rest sound)

@@ -1,6 +1,6 @@
 -- Loops that write a list: its first numbers one after another, or the entries of a group's members. Assumes nothing.
 use Prim.Native.Nat.{ℕ, zero, suc, _+_, _≤_, _<_}
-use mathlib.Core.List.{List, [], _∷_, _++_}
+use mathlib.Core.List.{List, [], _∷_, _++_, append-nil}
 use mathlib.Core.Path.{_≡_, refl, ap}
 use native.Mathlib.Nat.{le-of-suc-le-suc}
 use native.Mathlib.Numerals.{add-one}
@@ -33,9 +33,9 @@ filled-more {values} {was} {out} {k} held p q v e = record {
   written = rw (held .written, e, add-one k) (next-written k values was p q);
 }
 
-pub filled-all : {values was out : List ℕ} {k : ℕ} → Filled values was out k → k ≡ length values
-    → out ≡ values ++ drop (length values) was
-filled-all {values} held end = rw (held .written, end, take-length values)
+pub filled-all : {values was out : List ℕ} {k : ℕ} → Filled values was out k → length was ≡ length values → k ≡ length values → out ≡ values
+filled-all {values} {was} held sizes end =
+    rw (held .written, end, take-length values, drop-of-length-le was {i = length values} (omega arith), append-nil values)
 
 -- the entries of the first k members are replaced: the others' are still to come
 pub record Scattered (members values was entries : List ℕ) (k : ℕ) : Type 0 where

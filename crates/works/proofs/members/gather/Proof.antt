@@ -64,7 +64,7 @@ returns : tie.Need-returns Inv-loop μ-loop
 returns c =
     let start = c .before .before in
     let counted = gather-length (start .args .entries .now) (start .args .members .now) in
-    rw counted at (filled-all (c .before .loop .inv .0) (omega arith))
+    filled-all (c .before .loop .inv .0) (omega arith) (omega arith)
 
 pub gather-spec : {M : Type 1} → statement M
 gather-spec =

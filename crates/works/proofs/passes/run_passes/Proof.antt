@@ -1,0 +1,290 @@
+-- Within a pass, the turns taken and those left are the pass; between passes, the passes done and those left are the settling.
+-- Each pass that changes the table makes the sum of widths fall. Assumes nothing.
+use borrow.Author.Needs.{needs}
+use mathlib.Core.List.{List}
+use mathlib.Core.Logic.{_≢_}
+use mathlib.Core.Path.{_≡_, refl, sym, subst, _∙_}
+use native.Mathlib.Omega.{arith}
+use Prim.Native.Nat.{ℕ, _+_, _-_, _≤_, _<_}
+use lib.ListN.{length, getD, take, drop}
+use Rattle.works.specs.Answers.{settled-answer, refused-answer}
+use Rattle.works.specs.Flat.{groupAt, groupsIn}
+use Rattle.works.specs.Ready.{Turning, Workspace}
+use Rattle.works.specs.Settling as settling
+use Rattle.works.specs.Tables.{Table, tableOf, width}
+use Rattle.works.specs.Laws.Parts.{from-part}
+use Rattle.works.specs.Laws.Running.{Passing, Next, Unsettled, opening-sound, width-small, passing-sound, passing-start, passing-next, passing-end, next-within, next-turning, next-stops, next-passes, unsettled-start, pass-refused, pass-settled, pass-falls, pass-goes-on}
+use Rattle.works.proofs.passes.run_passes.Statement.{statement}
+use Rattle.works.proofs.passes.run_passes.Tie as tie
+
+-- four lists have the lengths of four others
+record SameSizes (a₀ b₀ c₀ d₀ a b c d : List ℕ) : Type 0 where
+  pub first : length a ≡ length a₀
+  pub second : length b ≡ length b₀
+  pub third : length c ≡ length c₀
+  pub fourth : length d ≡ length d₀
+
+sizes-kept : {a b c d : List ℕ} → SameSizes a b c d a b c d
+sizes-kept = record { first = refl; second = refl; third = refl; fourth = refl }
+
+sizes-again : {a₀ b₀ c₀ d₀ a₁ b₁ c₁ d₁ a b c d : List ℕ} → SameSizes a₀ b₀ c₀ d₀ a₁ b₁ c₁ d₁ → SameSizes a₁ b₁ c₁ d₁ a b c d
+    → SameSizes a₀ b₀ c₀ d₀ a b c d
+sizes-again p q = record { first = omega arith; second = omega arith; third = omega arith; fourth = omega arith }
+
+abbrev Inv-loop : tie.InvT-loop
+Inv-loop flat groups lows₀ highs₀ member-lows₀ member-highs₀ passes place₀ number₀ before at₀ lows highs member-lows member-highs place number at =
+    Passing flat groups (tableOf lows₀ highs₀) (tableOf lows highs) at place
+    × SameSizes lows₀ highs₀ member-lows₀ member-highs₀ lows highs member-lows member-highs
+
+abbrev μ-loop : tie.MeasureT-loop
+μ-loop flat groups lows₀ highs₀ member-lows₀ member-highs₀ passes place₀ number₀ before at₀ lows highs member-lows member-highs place number at =
+    groups - place
+
+abbrev Inv-passes : tie.InvT-passes
+Inv-passes flat groups lows₀ highs₀ member-lows₀ member-highs₀ passes₀ number₀ lows highs member-lows member-highs passes number =
+    Unsettled flat groups (tableOf lows₀ highs₀) (tableOf lows highs) passes
+    × SameSizes lows₀ highs₀ member-lows₀ member-highs₀ lows highs member-lows member-highs
+
+abbrev μ-passes : tie.MeasureT-passes
+μ-passes flat groups lows₀ highs₀ member-lows₀ member-highs₀ passes₀ number₀ lows highs member-lows member-highs passes number =
+    width (tableOf lows highs)
+
+-- what is known at the start of a pass
+module _ (c : tie.At-passes Inv-loop μ-loop Inv-passes μ-passes) where
+  abbrev start : tie.Start Inv-loop μ-loop Inv-passes μ-passes
+  start = c .before .before .before .before .before .before
+
+  abbrev flat : List ℕ
+  flat = start .args .flat .now
+
+  abbrev groups : ℕ
+  groups = start .args .groups
+
+  abbrev opening : Table
+  opening = tableOf (start .args .lows .now) (start .args .highs .now)
+
+  abbrev table : Table
+  table = tableOf (c .passes .lows) (c .passes .highs)
+
+  unsettled : Unsettled flat groups opening table (c .passes .passes)
+  unsettled = c .passes .inv .0
+
+-- at a turn
+module _ (c : tie.In-loop Inv-loop μ-loop Inv-passes μ-passes) where
+  abbrev pass : tie.At-passes Inv-loop μ-loop Inv-passes μ-passes
+  pass = c .before .before .before .before .before
+
+  abbrev at : ℕ
+  at = c .before .loop .at
+
+  abbrev turnTable : Table
+  turnTable = tableOf (c .before .loop .lows) (c .before .loop .highs)
+
+  next : Next (flat pass) (groups pass) (table pass) turnTable at (c .before .loop .place)
+  next = passing-next _ _ _ _ _ _ (c .before .loop .inv .0) (c .loop-test .taken)
+
+  within : at + (4 + getD (flat pass) (at + 3) 0) ≤ length (flat pass)
+  within = next-within _ _ _ _ _ _ next
+
+  -- the list that the turn gets starts with its group
+  part : take (length (flat pass) - at) (drop at (flat pass)) ≡ drop at (flat pass)
+  part = from-part at (flat pass) (omega (arith, within))
+
+  -- the working lists have room
+  space : Workspace (c .before .loop .member-lows) (c .before .loop .member-highs)
+  space =
+      let opens = start pass .pre .1 in
+      let kept = pass .passes .inv .1 in
+      record { forLows = omega arith; forHighs = omega arith }
+
+-- after the last turn of a pass
+module _ (c : tie.After-loop Inv-loop μ-loop Inv-passes μ-passes) where
+  abbrev over : tie.At-passes Inv-loop μ-loop Inv-passes μ-passes
+  over = c .before .before .before .before .before
+
+  abbrev left : Table
+  left = tableOf (c .before .loop .lows) (c .before .loop .highs)
+
+  passed : settling.pass (groupsIn (groups over) (flat over)) (table over) ≡ settling.Passed.passed left
+  passed = passing-end _ _ (c .before .loop .inv .0) (c .loop-test .left)
+
+passes-holds : tie.Need-passes-holds Inv-loop μ-loop Inv-passes μ-passes
+passes-holds c = (unsettled-start _ _ (c .before .before .before .before .before .pre .0), sizes-kept)
+
+add-passes : tie.Need-add-passes Inv-loop μ-loop Inv-passes μ-passes
+add-passes c = omega (arith, unsettled c, width-small (flat c) (groups c) (start c .pre .0))
+
+width-of-requires : tie.Need-width-of-requires Inv-loop μ-loop Inv-passes μ-passes
+width-of-requires c κs =
+    let pass = c .before .before in
+    opening-sound (flat pass) (groups pass) (unsettled pass .ready)
+
+loop-holds : tie.Need-loop-holds Inv-loop μ-loop Inv-passes μ-passes
+loop-holds c = (passing-start _ _ (unsettled (c .before .before .before) .ready), sizes-kept)
+
+mul-take-turn : tie.Need-mul-take-turn Inv-loop μ-loop Inv-passes μ-passes
+mul-take-turn c =
+    let below : at c < length (flat (pass c)) = omega (arith, within c) in
+    search needs
+
+sub-take-turn : tie.Need-sub-take-turn Inv-loop μ-loop Inv-passes μ-passes
+sub-take-turn c = omega (arith, within c)
+
+part-take-turn-start : tie.Need-part-take-turn-start Inv-loop μ-loop Inv-passes μ-passes
+part-take-turn-start c = omega (arith, within c)
+
+part-take-turn-end : tie.Need-part-take-turn-end Inv-loop μ-loop Inv-passes μ-passes
+part-take-turn-end c = search needs
+
+take-turn-requires : tie.Need-take-turn-requires Inv-loop μ-loop Inv-passes μ-passes
+take-turn-requires c κs =
+    let turn = c .before .before .before .before .before in (
+      subst (λ (l : List ℕ). Turning (turnTable turn) (groupAt l)) (sym (part turn))
+          (next-turning _ _ _ _ _ _ (next turn) (unsettled (pass turn) .ready .few)),
+      (
+        subst (λ (l : List ℕ). 4 + getD l 3 0 ≤ length l) (sym (part turn)) (next turn .whole),
+        space turn,
+      ),
+    )
+
+add-place : tie.Need-add-place Inv-loop μ-loop Inv-passes μ-passes
+add-place c = search needs
+
+enum-told : tie.Need-enum-told Inv-loop μ-loop Inv-passes μ-passes
+enum-told c = search needs
+
+enum-told-2 : tie.Need-enum-told-2 Inv-loop μ-loop Inv-passes μ-passes
+enum-told-2 c = search needs
+
+number-of-requires : tie.Need-number-of-requires Inv-loop μ-loop Inv-passes μ-passes
+number-of-requires c κs = search needs
+
+add-at : tie.Need-add-at Inv-loop μ-loop Inv-passes μ-passes
+add-at c = let turn = c .before .before .before .before .before .before .before .before .before .before .before .before .before .before .before .before in omega (arith, within turn, start (pass turn) .good)
+
+mul-at : tie.Need-mul-at Inv-loop μ-loop Inv-passes μ-passes
+mul-at c =
+    let turn = c .before .before .before .before .before .before .before .before .before .before .before .before .before .before .before .before in
+    let below : at turn + 3 < length (flat (pass turn)) = omega (arith, within turn) in
+    search needs
+
+shared-slice-read-at : tie.Need-shared-slice-read-at Inv-loop μ-loop Inv-passes μ-passes
+shared-slice-read-at c = omega (arith, within (c .before .before .before .before .before .before .before .before .before .before .before .before .before .before .before .before .before))
+
+add-at-2 : tie.Need-add-at-2 Inv-loop μ-loop Inv-passes μ-passes
+add-at-2 c = omega (arith, within (c .before .before .before .before .before .before .before .before .before .before .before .before .before .before .before .before .before))
+
+add-at-3 : tie.Need-add-at-3 Inv-loop μ-loop Inv-passes μ-passes
+add-at-3 c = omega (arith, within (c .before .before .before .before .before .before .before .before .before .before .before .before .before .before .before .before .before))
+
+loop-less : tie.Need-loop-less Inv-loop μ-loop Inv-passes μ-passes
+loop-less c = search needs
+
+loop-again : tie.Need-loop-again Inv-loop μ-loop Inv-passes μ-passes
+loop-again c =
+    let call = c .before .before .before .before .before .before .before .before .before .before .before in
+    let turn = call .before .before .before .before .before .before in (
+      next-passes _ _ _ _ _ _ (next turn) (call .take-turn .result) _ _ (part turn) (call .take-turn .ensures) (c .before .enum-told .given .1),
+      sizes-again (turn .before .loop .inv .1) (record { first = omega (arith, call .take-turn .kept); second = omega (arith, call .take-turn .kept); third = omega (arith, call .take-turn .kept); fourth = omega (arith, call .take-turn .kept) }),
+    )
+
+width-of-requires-2 : tie.Need-width-of-requires-2 Inv-loop μ-loop Inv-passes μ-passes
+width-of-requires-2 c κs =
+    let end = c .before .before in
+    passing-sound _ _ (end .before .loop .inv .0) (unsettled (over end) .ready .few)
+
+same-length : tie.Need-same-length Inv-loop μ-loop Inv-passes μ-passes
+same-length c = search needs
+
+same-length-2 : tie.Need-same-length-2 Inv-loop μ-loop Inv-passes μ-passes
+same-length-2 c = search needs
+
+same-length-3 : tie.Need-same-length-3 Inv-loop μ-loop Inv-passes μ-passes
+same-length-3 c = search needs
+
+same-length-4 : tie.Need-same-length-4 Inv-loop μ-loop Inv-passes μ-passes
+same-length-4 c = search needs
+
+returns : tie.Need-returns Inv-loop μ-loop Inv-passes μ-passes
+returns c =
+    let end = c .before .before .before .before in
+    settled-answer
+    (pass-settled _ _ (unsettled (over end)) (passed end)
+    (sym (c .before .width-of2 .ensures) ∙ c .if1 .taken ∙ end .before .before .width-of .ensures))
+
+-- a pass that goes on has changed the sum of widths
+moved : (c : tie.Else1 Inv-loop μ-loop Inv-passes μ-passes) → width (left (c .before .before .before .before)) ≢ width (table (over (c .before .before .before .before)))
+moved c same = c .if1 .left (c .before .width-of2 .ensures ∙ same ∙ sym (c .before .before .before .before .before .before .width-of .ensures))
+
+passes-less : tie.Need-passes-less Inv-loop μ-loop Inv-passes μ-passes
+passes-less c = let end = c .before .before .before .before in pass-falls _ _ (unsettled (over end)) (passed end) (moved c)
+
+passes-again : tie.Need-passes-again Inv-loop μ-loop Inv-passes μ-passes
+passes-again c =
+    let end = c .before .before .before .before in (
+      pass-goes-on _ _ (unsettled (over end)) (passed end) (moved c),
+      sizes-again (over end .passes .inv .1) (end .before .loop .inv .1),
+    )
+
+same-length-5 : tie.Need-same-length-5 Inv-loop μ-loop Inv-passes μ-passes
+same-length-5 c = search needs
+
+same-length-6 : tie.Need-same-length-6 Inv-loop μ-loop Inv-passes μ-passes
+same-length-6 c = search needs
+
+same-length-7 : tie.Need-same-length-7 Inv-loop μ-loop Inv-passes μ-passes
+same-length-7 c = search needs
+
+same-length-8 : tie.Need-same-length-8 Inv-loop μ-loop Inv-passes μ-passes
+same-length-8 c = search needs
+
+returns-2 : tie.Need-returns-2 Inv-loop μ-loop Inv-passes μ-passes
+returns-2 c =
+    let call = c .before .before .before .before .before .before .before .before .before .before .before in
+    let turn = call .before .before .before .before .before .before in
+    refused-answer
+    (pass-refused _ _ (unsettled (pass turn))
+    (next-stops _ _ _ _ _ _ (next turn) (call .take-turn .result) _ _ (part turn) (call .take-turn .ensures) (c .before .enum-told2 .given .1) (c .number-of .ensures)))
+    _
+
+pub run-passes-spec : {M : Type 1} → statement M
+run-passes-spec =
+    tie.close
+    (tie.spec
+    Inv-loop
+    μ-loop
+    Inv-passes
+    μ-passes
+    passes-holds
+    add-passes
+    width-of-requires
+    loop-holds
+    mul-take-turn
+    sub-take-turn
+    part-take-turn-start
+    part-take-turn-end
+    take-turn-requires
+    add-place
+    enum-told
+    enum-told-2
+    number-of-requires
+    add-at
+    mul-at
+    shared-slice-read-at
+    add-at-2
+    add-at-3
+    loop-less
+    loop-again
+    width-of-requires-2
+    same-length
+    same-length-2
+    same-length-3
+    same-length-4
+    returns
+    passes-less
+    passes-again
+    same-length-5
+    same-length-6
+    same-length-7
+    same-length-8
+    returns-2)

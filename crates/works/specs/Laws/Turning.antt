@@ -1,0 +1,80 @@
+-- A group's turn by its parts: the members' ranges gathered, narrowed and written back. Assumes nothing.
+use Prim.Native.Nat.{ℕ, _+_, _-_, _≤_}
+use mathlib.Core.List.{List}
+use mathlib.Core.Path.{_≡_, ap, _∙_}
+use native.Mathlib.Omega.{arith}
+use lib.ListN.{length, getD, take, drop, length-drop}
+use lib.Seq.{length-take-le}
+use Rattle.group.specs.Narrowing.{afterTurn}
+use Rattle.group.specs.Sound as one
+use Rattle.model.specs.Groups.{Group}
+use Rattle.model.specs.Laws.Lists.{ranges-length}
+use Rattle.model.specs.Plans.{turnOf, narrowedLows, narrowedHighs}
+use Rattle.model.specs.declared.Limit.{Limit}
+use Rattle.model.specs.declared.Turn.{Turn}
+use Rattle.model.specs.declared.Turn.the-variants.{Narrowed, NoPlan}
+use Rattle.works.specs.Flat.{limitOf, groupAt}
+use Rattle.works.specs.Ready.{groupOf, Turning, Room, Workspace}
+use Rattle.works.specs.Settling.{revisedBy, narrowed, revise}
+use Rattle.works.specs.Tables.{Table, Named, tableOf, units, scatter, lowsOf, highsOf, size}
+use Rattle.works.specs.Laws.Few.{size-few}
+use Rattle.works.specs.Laws.Members.{gather-length}
+use Rattle.works.specs.Laws.Turns.{gathered}
+
+-- a group read from the start of a flat list
+pub group-read : (flat : List ℕ) {deviation spread : Limit} {members : List ℕ}
+    → deviation ≡ limitOf (getD flat 1 0) → spread ≡ limitOf (getD flat 2 0) → members ≡ groupAt flat .members
+    → groupOf (getD flat 0 0) (record { deviation = deviation; spread = spread }) members ≡ groupAt flat
+group-read flat is-deviation is-spread is-members = rw (is-deviation, is-spread, is-members)
+
+module _ {table : Table} {group : Group} (turning : Turning table group) where
+  -- the members are units of the table
+  pub members-named : Named (units table) (group .members)
+  members-named = record { below = turning .sound .below }
+
+  pub highs-named : Named (length (table .highs)) (group .members)
+  highs-named = rw (ranges-length (turning .valid)) members-named
+
+  -- the gathered ranges are those of one group
+  pub gathered-sound : {lows highs : List ℕ} → lows ≡ lowsOf table group → highs ≡ highsOf table group → one.Sound lows highs
+  gathered-sound is-lows is-highs =
+      rw (is-lows, is-highs)
+      (one.sound (gathered table group (turning .valid) (turning .sound))
+      (omega (arith, size-few (turning .sound), turning .few, gather-length (table .lows) (group .members))))
+
+-- a group that a flat list holds whole has as many members as it says, and at most 256
+module _ (flat : List ℕ) (whole : 4 + getD flat 3 0 ≤ length flat) where
+  pub size-read : size (groupAt flat) ≡ getD flat 3 0
+  size-read = length-take-le (getD flat 3 0) (drop 4 flat) (omega (arith, length-drop 4 flat))
+
+  pub count-few : {table : Table} → Turning table (groupAt flat) → getD flat 3 0 ≤ one.greatestCount
+  count-few turning = omega (arith, size-read, size-few (turning .sound), turning .few)
+
+  -- working lists have room for it
+  pub room : {table : Table} → Turning table (groupAt flat) → {lows highs members : List ℕ} → Workspace lows highs
+      → members ≡ groupAt flat .members → Room (length members) (take (getD flat 3 0) lows) (take (getD flat 3 0) highs)
+  room turning {lows} {highs} {members} space is-members =
+      let few : getD flat 3 0 ≤ one.greatestCount = count-few turning in
+      let size : length members ≡ getD flat 3 0 = ap length is-members ∙ size-read in
+      record {
+        forLows = omega (arith, length-take-le (getD flat 3 0) lows (omega arith));
+        forHighs = omega (arith, length-take-le (getD flat 3 0) highs (omega arith));
+      }
+
+-- a group's turn on lists that hold its members' ranges
+module _ (table : Table) (group : Group) {lows highs : List ℕ} (is-lows : lows ≡ lowsOf table group) (is-highs : highs ≡ highsOf table group)
+    (turn : Turn) (answer : turn ≡ turnOf lows highs (group .total) (group .limits)) where
+  -- where there is no plan, it hands back the refusal
+  pub turn-refused : (number : ℕ) → turn ≡ NoPlan number → (next : Table) → revisedBy turn next ≡ revise table group
+  unfolding revise
+  turn-refused number refuses next = rw (← is-lows, ← is-highs, ← answer, refuses)
+
+  -- where there is one, the narrowed ranges are written back
+  pub turn-narrowed : turn ≡ Narrowed → {nextLows nextHighs narrowLows narrowHighs : List ℕ}
+      → narrowLows ≡ afterTurn turn (narrowedLows lows highs (group .total) (group .limits)) lows
+      → narrowHighs ≡ afterTurn turn (narrowedHighs lows highs (group .total) (group .limits)) highs
+      → nextLows ≡ scatter (table .lows) (group .members) narrowLows → nextHighs ≡ scatter (table .highs) (group .members) narrowHighs
+      → revisedBy turn (tableOf nextLows nextHighs) ≡ revise table group
+  unfolding revise narrowed
+  turn-narrowed narrows low-ends high-ends low-writes high-writes =
+      rw (low-writes, high-writes, low-ends, high-ends, ← is-lows, ← is-highs, ← answer, narrows)
