@@ -21,7 +21,7 @@ pub enum Scale {
     Logarithmic,
 }
 
-/// A panel: its titles and its lines. The marks of the first axis are the points' own numbers.
+/// A panel: its titles and its lines, the first on top. The marks of the first axis are the points' own numbers.
 pub struct Panel {
     pub title: String,
     pub across: String,
@@ -93,7 +93,7 @@ impl Panel {
             bottom + 34.0,
             self.across
         );
-        for (index, line) in self.lines.iter().enumerate() {
+        for (index, line) in self.lines.iter().enumerate().rev() {
             let colour = COLOURS[index % COLOURS.len()];
             let points: Vec<String> =
                 line.points.iter().map(|point| format!("{:.1},{:.1}", x(point.0), y(point.1))).collect();
