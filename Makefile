@@ -1,5 +1,5 @@
-# The planner's two commands. See README.md.
-.PHONY: run test
+# The planner's two commands, and the benchmark of docs/BENCHMARKS.md. See README.md.
+.PHONY: run test bench
 
 run:
 	@tools/need rt
@@ -7,3 +7,6 @@ run:
 
 test:
 	@tools/gate
+
+bench:
+	@bench/run
