@@ -96,6 +96,23 @@ danivomel_refusal danivomel_narrow(
     uint64_t total,
     danivomel_limits limits);
 
+/* What reading a job text answers. On a refusal both counts are 0. */
+typedef struct {
+    danivomel_refusal refusal;
+    size_t units;
+    size_t groups;
+} danivomel_counts;
+
+/*
+ * Reads a job text into a table: afterwards lows and highs begin with the ranges of the unit lines.
+ * Refuses, in this order: 2; the first bad line with the lowest of 3 to 9; 10; 1 for lows or highs shorter than the
+ * units.
+ */
+danivomel_counts danivomel_read(
+    const uint8_t *text, size_t text_count,
+    uint64_t *lows, size_t lows_count,
+    uint64_t *highs, size_t highs_count);
+
 #ifdef __cplusplus
 }
 #endif

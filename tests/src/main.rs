@@ -47,4 +47,11 @@ fn proved_planner(checks: &mut Checks) {
         topics::narrow::compare(checks, who, planner::narrow);
         topics::lists::run_narrow(checks, who, planner::narrow);
     }
+    #[cfg(feature = "read")]
+    {
+        topics::read::run(checks, who, planner::read);
+        topics::read::compare(checks, who, planner::read);
+        topics::lines::run(checks, who, planner::read);
+        topics::calls::run_read(checks, who, planner::read);
+    }
 }

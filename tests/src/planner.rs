@@ -2,6 +2,8 @@
 //! Every call takes any lists and numbers, and refuses what the specification does not allow; a refusal changes no
 //! list.
 
+#[cfg(feature = "read")]
+use crate::answers::Counts;
 use crate::answers::{Deviation, Levelled, Refusal, Spread};
 #[cfg(feature = "narrow")]
 use crate::answers::{Limit, Limits};
@@ -31,6 +33,15 @@ struct ForeignLimits {
     spread: ForeignLimit,
 }
 
+/// What reading answers across the border.
+#[cfg(feature = "read")]
+#[repr(C)]
+struct ForeignRead {
+    refusal: Refusal,
+    units: usize,
+    groups: usize,
+}
+
 extern "C" {
     fn danivomel_level(
         lows: *const u64,
@@ -51,6 +62,16 @@ extern "C" {
         total: u64,
         limits: ForeignLimits,
     ) -> Refusal;
+
+    #[cfg(feature = "read")]
+    fn danivomel_read(
+        text: *const u8,
+        text_count: usize,
+        lows: *mut u64,
+        lows_count: usize,
+        highs: *mut u64,
+        highs_count: usize,
+    ) -> ForeignRead;
 }
 
 /// A refusal as an error, and number 0 as none.
@@ -109,4 +130,25 @@ fn across(limit: Limit) -> ForeignLimit {
         Limit::Any => ForeignLimit { any: true, at_most: 0 },
         Limit::AtMost(at_most) => ForeignLimit { any: false, at_most },
     }
+}
+
+/// Reads a job text into a table: lows and highs then begin with the ranges of the unit lines.
+///
+/// Refuses 2 for a text over 65,536 bytes; 3 to 9 at the first bad line; 10 for no unit line; 1 for a table shorter
+/// than the units.
+///
+/// ```
+/// use danivomel_tests::planner::read;
+/// let (mut lows, mut highs) = ([9; 3], [9; 3]);
+/// let counts = read(b"(unit 0 5)\n(unit 1 4)\n", &mut lows, &mut highs).unwrap();
+/// assert_eq!((counts.units, lows, highs), (2, [0, 1, 9], [5, 4, 9]));
+/// ```
+#[cfg(feature = "read")]
+pub fn read(text: &[u8], lows: &mut [u64], highs: &mut [u64]) -> Result<Counts, Refusal> {
+    // SAFETY: each pointer and count is a slice's, and the slices do not overlap, since two are borrowed mutably.
+    let answer = unsafe {
+        danivomel_read(text.as_ptr(), text.len(), lows.as_mut_ptr(), lows.len(), highs.as_mut_ptr(), highs.len())
+    };
+    accepted(answer.refusal)?;
+    Ok(Counts { units: answer.units as u64, groups: answer.groups as u64 })
 }
