@@ -64,8 +64,11 @@ loop-again c =
     let s = c .before .before .before .before .before .before in
     let turn = c .before .before .before .before .before in
     let passes : areShares (getD (s .args .lows .now) (turn .loop .i) 0) (getD (s .args .highs .now) (turn .loop .i) 0) ≡ true =
-    rw (le-leb _ _ (c .before .before .if1 .left), le-leb _ _ (c .if2 .left)) in
-    (search needs, first-after areShares (s .args .lows .now) (s .args .highs .now) (turn .loop .i) (omega arith) (omega arith) (turn .loop .inv .1) passes)
+    rw (le-leb _ _ (c .before .before .if1 .left), le-leb _ _ (c .if2 .left)) in (
+      search needs,
+      first-after areShares (s .args .lows .now) (s .args .highs .now) (turn .loop .i) (omega arith) (omega arith) (turn .loop .inv .1)
+          passes,
+    )
 
 returns-3 : tie.Need-returns-3 Inv-loop μ-loop
 returns-3 c = first-nowhere areShares _ _ _ (c .loop-test .left) (c .before .loop .inv .1)
