@@ -3,10 +3,10 @@ use borrow.Author.Needs.{needs}
 use borrow.Author.Tests.{le-leb, lt-leb}
 use native.Mathlib.Omega.{arith}
 use mathlib.Core.Path.{_≡_, refl}
-use Prim.Native.Nat.{_+_, _-_, _≤_}
+use Prim.Native.Nat.{_-_, _≤_}
 use lib.ListN.{length, getD}
 use mathlib.Core.Bool.{true}
-use Rattle.group.specs.Checks.{firstFailing, areShares}
+use Rattle.group.specs.Checks.{areShares}
 use Rattle.group.specs.Passed.{NoneBefore, first-here, first-after, first-nowhere}
 use Rattle.group.proofs.checks.first_beyond.Statement.{statement}
 use Rattle.group.proofs.checks.first_beyond.Tie as tie

@@ -2,11 +2,10 @@
 use borrow.Author.Needs.{needs}
 use borrow.Author.Tests.{le-leb, lt-leb}
 use native.Mathlib.Omega.{arith}
-use mathlib.Core.Path.{_≡_, refl}
-use Prim.Native.Nat.{_+_, _-_, _≤_}
+use mathlib.Core.Path.{refl}
+use Prim.Native.Nat.{_-_, _≤_}
 use lib.Dec.{leb}
-use lib.ListN.{length, drop, drop-of-length-le}
-use Rattle.group.specs.Checks.{firstFailing}
+use lib.ListN.{length}
 use Rattle.group.specs.Passed.{NoneBefore, first-here, first-after, first-nowhere}
 use Rattle.group.proofs.checks.first_crossed.Statement.{statement}
 use Rattle.group.proofs.checks.first_crossed.Tie as tie
