@@ -21,21 +21,33 @@ module _ {lows highs : List ℕ} {total : ℕ} {limits : Limits} {i share : ℕ}
 
   -- the ways from the share to the low and to the high
   pub to-low : Approach lows highs total limits i (getD lows i 0) share
-  to-low = record { member = planned .member; small = omega (arith, range); share-small = omega (arith, range, planned .high); passes = planned .passes }
+  to-low = record {
+    member = planned .member;
+    small = omega (arith, range);
+    share-small = omega (arith, range, planned .high);
+    passes = planned .passes;
+  }
 
   pub to-high : Approach lows highs total limits i (getD highs i 0) share
-  to-high = record { member = planned .member; small = range .1; share-small = omega (arith, range, planned .high); passes = planned .passes }
+  to-high = record {
+    member = planned .member;
+    small = range .1;
+    share-small = omega (arith, range, planned .high);
+    passes = planned .passes;
+  }
 
   -- a low that is taken stays
   low-stays : taken lows highs total limits i (getD lows i 0) ≡ true → getD lows i 0 ≡ narrowedLow lows highs total limits i
   low-stays passes =
-      sym (low-unique (planned .member .sound .ranges) total limits (planned .found) i (planned .member .here) (getD lows i 0) (omega arith) (range .0) passes
+      sym (low-unique (planned .member .sound .ranges) total limits (planned .found) i (planned .member .here) (getD lows i 0)
+      (omega arith) (range .0) passes
       (λ w next low. absurd (omega arith)))
 
   -- a high that is taken stays
   high-stays : taken lows highs total limits i (getD highs i 0) ≡ true → getD highs i 0 ≡ narrowedHigh lows highs total limits i
   high-stays passes =
-      sym (high-unique (planned .member .sound .ranges) total limits (planned .found) i (planned .member .here) (getD highs i 0) (range .0) (omega arith) passes
+      sym (high-unique (planned .member .sound .ranges) total limits (planned .found) i (planned .member .here) (getD highs i 0)
+      (range .0) (omega arith) passes
       (λ low. absurd (omega arith)))
 
   -- a value that is not taken is not the share
@@ -48,7 +60,8 @@ module _ {lows highs : List ℕ} {total : ℕ} {limits : Limits} {i share : ℕ}
   low-found fails r edge =
       let less : getD lows i 0 < share = omega (arith, planned .low, not-share (getD lows i 0) fails) in
       let place : (getD lows i 0 ≤ edge .outer) × (edge .outer < r) × (r ≤ share) = edge .straddle .rising less in
-      sym (low-unique (planned .member .sound .ranges) total limits (planned .found) i (planned .member .here) r (omega arith) (omega arith) (edge .straddle .passes)
+      sym (low-unique (planned .member .sound .ranges) total limits (planned .found) i (planned .member .here) r (omega arith) (omega arith)
+      (edge .straddle .passes)
       (λ w next low.
       let same : w ≡ edge .outer = omega arith in
       rw same (edge .straddle .fails)))
@@ -60,7 +73,8 @@ module _ {lows highs : List ℕ} {total : ℕ} {limits : Limits} {i share : ℕ}
       let more : share < getD highs i 0 = omega (arith, planned .high, not-share (getD highs i 0) fails) in
       let place : (share ≤ r) × (r < edge .outer) × (edge .outer ≤ getD highs i 0) = edge .straddle .falling more in
       let next : suc r ≡ edge .outer = omega arith in
-      sym (high-unique (planned .member .sound .ranges) total limits (planned .found) i (planned .member .here) r (omega arith) (omega arith) (edge .straddle .passes)
+      sym (high-unique (planned .member .sound .ranges) total limits (planned .found) i (planned .member .here) r (omega arith) (omega arith)
+      (edge .straddle .passes)
       (λ high. rw next (edge .straddle .fails)))
 
   -- what the search toward the low reaches is the narrowed low

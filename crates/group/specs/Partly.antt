@@ -8,11 +8,10 @@ use native.Mathlib.Decide.{decLt, ℕ-discrete}
 use native.Mathlib.Omega.{arith}
 use lib.ListN.{length, getD, set, length-set}
 use lib.Seq.{getD-set-same, getD-set-other, ext-getD}
-use Rattle.model.specs.Shares.{Ranges}
 use Rattle.model.specs.Levels.{levelled}
 use Rattle.model.specs.Plans.{Plan, hasPlan, narrowedLow, narrowedHigh, narrowedLows, narrowedHighs}
 use Rattle.model.specs.Laws.Tests.{both-left}
-use Rattle.model.specs.Laws.Lists.{ranges-length, within-at, within-length}
+use Rattle.model.specs.Laws.Lists.{within-at, within-length}
 use Rattle.model.specs.Laws.Plans.{found-plan, plan-found}
 use Rattle.model.specs.Laws.Pinned.{plan-taken}
 use Rattle.model.specs.Laws.Narrowing.{kept-inside, narrowedLows-length, narrowedHighs-length, narrowedLows-at, narrowedHighs-at}

@@ -30,6 +30,7 @@ pub record Sound (lows highs : List ℕ) : Type 0 where
   pub paired : length highs ≡ length lows
   pub few : length lows ≤ greatestCount
 
+-- what makes ranges sound
 pub sound : {lows highs : List ℕ} → Ranges lows highs → length lows ≤ greatestCount → Sound lows highs
 sound ranges few = record { ranges = ranges; paired = ranges-length ranges; few = few }
 

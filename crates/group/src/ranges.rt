@@ -11,7 +11,7 @@ use model::Turn;
 ghost use mathlib.Core.Bool.{false};
 ghost use mathlib.Core.Path.{_≡_};
 ghost use Prim.Native.Nat.{_≤_};
-ghost use lib.ListN.{length, set};
+ghost use lib.ListN.{set};
 ghost use Rattle.model.specs.Shares.{greatestShare};
 ghost use Rattle.model.specs.Plans.{taken, turnOf, narrowedLow, narrowedHigh, narrowedLows, narrowedHighs};
 ghost use Rattle.group.specs.Sound.{Sound};

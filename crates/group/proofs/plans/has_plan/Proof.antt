@@ -34,10 +34,13 @@ remainder-at-requires : tie.Need-remainder-at-requires
 remainder-at-requires c κs = (shared (c .before), c .level-at .ensures)
 
 -- the shares whose figures are taken are the levelled ones
-levelled-here : (c : tie.After-remainder-at)
-    → topped (start (c .before .before) .args .lows .now) (start (c .before .before) .args .highs .now) (c .before .level-at .result) (c .remainder-at .result)
-    ≡ levelled (start (c .before .before) .args .lows .now) (start (c .before .before) .args .highs .now) (start (c .before .before) .args .total)
-levelled-here c = levelled-is _ _ _ _ _ (c .before .level-at .ensures) (c .remainder-at .ensures)
+module _ (c : tie.After-remainder-at) where
+  abbrev begun : tie.Start
+  begun = start (c .before .before)
+
+  levelled-here : topped (begun .args .lows .now) (begun .args .highs .now) (c .before .level-at .result) (c .remainder-at .result)
+      ≡ levelled (begun .args .lows .now) (begun .args .highs .now) (begun .args .total)
+  levelled-here = levelled-is _ _ _ _ _ (c .before .level-at .ensures) (c .remainder-at .ensures)
 
 figures-at-requires : tie.Need-figures-at-requires
 figures-at-requires c κs =
@@ -48,7 +51,9 @@ met-requires c κs = search needs
 
 returns-2 : tie.Need-returns-2
 unfolding hasPlan
-returns-2 c = rw (exist (c .before .before .before .before .before .before), ← levelled-here (c .before .before .before .before), c .met .ensures, c .before .before .before .figures-at .ensures)
+returns-2 c =
+    let f = c .before .before .before in
+    rw (exist (f .before .before .before), ← levelled-here (f .before), c .met .ensures, f .figures-at .ensures)
 
 pub has-plan-spec : {M : Type 1} → statement M
 has-plan-spec =

@@ -60,7 +60,10 @@ returns-2 c =
     let e = f .before .before .before in
     let s = start e in
     let same = asked e .is-taken .ensures .1 in
-    (Reach.part (fails e) (over (λ l h. Edge (taken l h (s .args .total) (s .args .limits) (s .args .i)) (s .args .end) (s .args .share) (f .edge .result)) (sym (same .0)) (sym (same .1)) (f .edge .ensures .0)), (f .edge .ensures .1 .0 ∙ same .0, f .edge .ensures .1 .1 ∙ same .1))
+    let found : Edge (test e) (s .args .end) (s .args .share) (f .edge .result) =
+    over (λ l h. Edge (taken l h (s .args .total) (s .args .limits) (s .args .i)) (s .args .end) (s .args .share) (f .edge .result))
+    (sym (same .0)) (sym (same .1)) (f .edge .ensures .0) in
+    (Reach.part (fails e) found, (f .edge .ensures .1 .0 ∙ same .0, f .edge .ensures .1 .1 ∙ same .1))
 
 pub farthest-taken-spec : {M : Type 1} → statement M
 farthest-taken-spec =

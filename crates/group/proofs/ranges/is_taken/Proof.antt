@@ -1,6 +1,5 @@
 -- The pinned group has a plan or not, and what was pinned is put back. Assumes nothing.
 use borrow.Author.Needs.{needs}
-use native.Mathlib.Omega.{arith}
 use lib.Seq.{set-set, set-getD}
 use Rattle.group.specs.Sound.{pinned-sound}
 use Rattle.group.proofs.ranges.is_taken.Statement.{statement}

@@ -46,14 +46,17 @@ module _ (c : tie.After-farthest-taken2) where
   same-highs : c .farthest-taken2 .last .1 .0 ≡ start .args .highs .now
   same-highs = c .farthest-taken2 .ensures .1 .1 ∙ first .farthest-taken .ensures .1 .1
 
-  least : first .farthest-taken .result ≡ narrowedLow (start .args .lows .now) (start .args .highs .now) (start .args .total) (start .args .limits) (start .args .i)
+  least : first .farthest-taken .result
+      ≡ narrowedLow (start .args .lows .now) (start .args .highs .now) (start .args .total) (start .args .limits) (start .args .i)
   least = low-reached (start .pre) (first .farthest-taken .ensures .0)
 
-  greatest : c .farthest-taken2 .result ≡ narrowedHigh (start .args .lows .now) (start .args .highs .now) (start .args .total) (start .args .limits) (start .args .i)
+  greatest : c .farthest-taken2 .result
+      ≡ narrowedHigh (start .args .lows .now) (start .args .highs .now) (start .args .total) (start .args .limits) (start .args .i)
   greatest =
       high-reached (start .pre)
       (over
-      (λ l h. Reach (taken l h (start .args .total) (start .args .limits) (start .args .i)) (getD (start .args .highs .now) (start .args .i) 0) (start .args .share) (c .farthest-taken2 .result))
+      (λ l h. Reach (taken l h (start .args .total) (start .args .limits) (start .args .i))
+      (getD (start .args .highs .now) (start .args .i) 0) (start .args .share) (c .farthest-taken2 .result))
       (sym (first .farthest-taken .ensures .1 .0))
       (sym (first .farthest-taken .ensures .1 .1))
       (c .farthest-taken2 .ensures .0))

@@ -2,7 +2,7 @@
 use borrow.Author.Needs.{needs}
 use native.Mathlib.Omega.{arith}
 use mathlib.Core.List.{List}
-use mathlib.Core.Path.{_≡_, refl, sym, _∙_}
+use mathlib.Core.Path.{_≡_, refl, sym}
 use Prim.Native.Nat.{ℕ, _+_, _-_, _≤_, min}
 use lib.ListN.{length, getD}
 use Rattle.model.specs.Levels.{clamp, growth, topped, levelled}
@@ -60,7 +60,8 @@ slice-read-clamp-2 c = search needs
 
 clamp-requires : tie.Need-clamp-requires Inv-loop μ-loop
 clamp-requires c κs =
-    let partly = partly-sound (c .before .before .before .before .before .before .before .before .before .before .before .before .before .before .before .pre) (c .before .before .before .before .before .before .loop .inv .1) in
+    let turn = c .before .before .before .before .before .before in
+    let partly = partly-sound (turn .before .before .before .before .before .before .before .before .before .pre) (turn .loop .inv .1) in
     ranges-at (partly .ranges) (c .before .before .before .before .before .before .loop .i) (omega (arith, partly .paired)) .0
 
 -- the start, the loop's turn, the copy taken and the share, seen from the member's share on
@@ -110,13 +111,21 @@ module _ (c : tie.After-clamp Inv-loop μ-loop) where
   is-levelled =
       let levelled-here : topped lows highs v left ≡ levelled lows highs (start .args .total) =
       levelled-is lows highs (start .args .total) v left (opened .before .before .before .level-at .ensures) (opened .remainder-at .ensures) in
-      rw (← levelled-here) (sym (ahead-share lows highs i (omega arith) (omega arith) v left (turn .loop .left) (c .clamp .result) more is-clamp is-growth (turn .loop .inv .2)))
+      rw (← levelled-here)
+      (sym (ahead-share lows highs i (omega arith) (omega arith) v left (turn .loop .left) (c .clamp .result) more is-clamp is-growth
+      (turn .loop .inv .2)))
 
   next : Ahead lows highs v left (turn .loop .left - more) (i + 1)
-  next = ahead-step lows highs i (omega arith) (omega arith) v left (turn .loop .left) (c .clamp .result) more is-clamp is-growth (turn .loop .inv .2)
+  next =
+      ahead-step lows highs i (omega arith) (omega arith) v left (turn .loop .left) (c .clamp .result) more is-clamp is-growth
+      (turn .loop .inv .2)
 
 add-share : tie.Need-add-share Inv-loop μ-loop
-add-share c = omega (arith, share-at-small (start c .pre .sound) (i c) (v c) (turn c .loop .left) (c .clamp .result) (more c) (omega arith) (is-clamp c) (is-growth c))
+add-share c =
+    omega (
+      arith,
+      share-at-small (start c .pre .sound) (i c) (v c) (turn c .loop .left) (c .clamp .result) (more c) (omega arith) (is-clamp c) (is-growth c),
+    )
 
 sub-left : tie.Need-sub-left Inv-loop μ-loop
 sub-left c = search needs
@@ -136,7 +145,8 @@ loop-again : tie.Need-loop-again Inv-loop μ-loop
 loop-again c =
     let n = c .before .before .before .before in
     let m = n .before .before .before in
-    (search needs, partly-step (start m .pre) (turn m .loop .inv .1) (omega arith) (n .narrow-member .ensures .0) (n .narrow-member .ensures .1), next m)
+    let kept = n .narrow-member .ensures in
+    (search needs, partly-step (start m .pre) (turn m .loop .inv .1) (omega arith) (kept .0) (kept .1), next m)
 
 same-length : tie.Need-same-length Inv-loop μ-loop
 same-length c = c .before .loop .inv .1 .sameLows
