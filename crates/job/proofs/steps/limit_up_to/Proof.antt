@@ -1,0 +1,23 @@
+-- In the arm that binds the number, the limit is AtMost at it. Assumes nothing.
+
+use native.Mathlib.Omega.{arith}
+use borrow.Author.Needs.{needs}
+use Rattle.job.proofs.steps.limit_up_to.Statement.{statement}
+use Rattle.job.proofs.steps.limit_up_to.Tie as tie
+use Rattle.job.proofs.steps.limit_up_to.Reads as reads
+use Rattle.job.proofs.steps.limit_up_to.Lts as lts
+
+enum-told : tie.Need-enum-told
+enum-told c = search needs
+
+enum-known-limit : tie.Need-enum-known-limit
+enum-known-limit c = search needs
+
+returns : tie.Need-returns
+returns c = search needs
+
+returns-2 : tie.Need-returns-2
+returns-2 c = rw (c .before .limit .given .1)
+
+pub limit-up-to-spec : {M : Type 1} → statement M
+limit-up-to-spec = tie.close (tie.spec enum-told enum-known-limit returns returns-2)

@@ -1,0 +1,71 @@
+-- A line is tried as a unit line, then as a group line. Assumes nothing.
+use mathlib.Core.Path.{_≡_, sym}
+use Rattle.text.specs.Spots.{told}
+use Rattle.job.specs.Seen.{unitSeen}
+use Rattle.job.specs.Taking.{line-is-group, line-is-unit}
+use native.Mathlib.Omega.{arith}
+use borrow.Author.Needs.{needs}
+use Rattle.job.proofs.steps.take_line.Statement.{statement}
+use Rattle.job.proofs.steps.take_line.Tie as tie
+use Rattle.job.proofs.steps.take_line.Reads as reads
+use Rattle.job.proofs.steps.take_line.Lts as lts
+use Rattle.job.proofs.lines.unit_line.Reads as unit-line-reads
+use Rattle.job.proofs.steps.take_group.Reads as take-group-reads
+use Rattle.job.proofs.steps.take_unit.Reads as take-unit-reads
+
+unit-line-requires : tie.Need-unit-line-requires
+unit-line-requires c κs = search needs
+
+enum-known-low : tie.Need-enum-known-low
+enum-known-low c = search needs
+
+enum-told : tie.Need-enum-told
+enum-told c = search needs
+
+take-group-requires : tie.Need-take-group-requires
+take-group-requires c κs = search needs
+
+same-length : tie.Need-same-length
+same-length c = search needs
+
+returns : tie.Need-returns
+returns c = λ job lows₀ highs₀ flat₀ holds.
+    let t = c .before .before in
+    let e = t .before .before in
+    let u = e .before .before in
+    let a = u .before .before .before .before .before .args in
+    rw (← line-is-group job (a .progress) _ holds _ (told (unitSeen (a .text .now)) (u .unit-line .ensures) (e .enum-told .given .1)))
+    (t .take-group .ensures job lows₀ highs₀ flat₀ (a .lows .now) (a .highs .now) holds)
+
+take-unit-requires : tie.Need-take-unit-requires
+take-unit-requires c κs = search needs
+
+same-length-2 : tie.Need-same-length-2
+same-length-2 c = search needs
+
+same-length-3 : tie.Need-same-length-3
+same-length-3 c = search needs
+
+returns-2 : tie.Need-returns-2
+returns-2 c = λ job lows₀ highs₀ flat₀ holds.
+    let t = c .before .before .before .before in
+    let w = t .before .before .before .before in
+    let u = w .before .before in
+    let a = u .before .before .before .before .before .args in
+    rw (← line-is-unit job (a .progress) _ holds _ _ _ (told (unitSeen (a .text .now)) (u .unit-line .ensures) (w .low .given .1)))
+    (t .take-unit .ensures (a .text .now) job lows₀ highs₀ flat₀ (a .flat .now) holds)
+
+pub take-line-spec : {M : Type 1} → statement M
+take-line-spec =
+    tie.close
+    (tie.spec
+    unit-line-requires
+    enum-known-low
+    enum-told
+    take-group-requires
+    same-length
+    returns
+    take-unit-requires
+    same-length-2
+    same-length-3
+    returns-2)

@@ -1,0 +1,83 @@
+-- The verdict is the definition's; the stores are the job's new unit. Assumes nothing.
+use Prim.Native.Nat.{ℕ, _+_, _≤_, _<_}
+use mathlib.Core.Path.{_≡_, sym, _∙_}
+use lib.ListN.{length}
+use Rattle.job.specs.Steps.{lists}
+use Rattle.job.specs.Job.{add}
+use Rattle.job.specs.Form.{UnitLine, unit}
+use Rattle.job.specs.Verdicts.{unit-good}
+use Rattle.job.specs.Taking.{unit-refused, unit-next, unit-holds}
+use native.Mathlib.Omega.{arith}
+use borrow.Author.Needs.{needs}
+use Rattle.job.proofs.steps.take_unit.Statement.{statement}
+use Rattle.job.proofs.steps.take_unit.Tie as tie
+use Rattle.job.proofs.steps.take_unit.Reads as reads
+use Rattle.job.proofs.steps.take_unit.Lts as lts
+use Rattle.job.proofs.steps.refuse.Reads as refuse-reads
+use Rattle.job.proofs.steps.unit_verdict.Reads as unit-verdict-reads
+
+unit-verdict-requires : tie.Need-unit-verdict-requires
+unit-verdict-requires c κs = search needs
+
+refuse-requires : tie.Need-refuse-requires
+refuse-requires c κs = search needs
+
+returns : tie.Need-returns
+returns c = λ text job lows₀ highs₀ flat₀ flat holds.
+    let v = c .before .before in
+    let a = v .before .before .before .args in
+    rw (c .refuse .ensures) (unit-refused job (a .progress) _ holds _ _ (v .unit-verdict .result) (v .unit-verdict .ensures) (c .before .if1 .taken))
+
+mul-lows : tie.Need-mul-lows
+mul-lows c = search needs
+
+slice-write-lows : tie.Need-slice-write-lows
+slice-write-lows c =
+    let v = c .before in
+    let s = v .before .before .before in
+    let good = unit-good (s .args .progress .units) (s .args .progress .groups) _ (sym (v .unit-verdict .ensures) ∙ c .if1 .left) in
+    omega (arith, good .room, s .pre .1)
+
+mul-highs : tie.Need-mul-highs
+mul-highs c = search needs
+
+slice-write-highs : tie.Need-slice-write-highs
+slice-write-highs c =
+    let v = c .before in
+    let s = v .before .before .before in
+    let good = unit-good (s .args .progress .units) (s .args .progress .groups) _ (sym (v .unit-verdict .ensures) ∙ c .if1 .left) in
+    omega (arith, good .room, s .pre .2)
+
+add-t13 : tie.Need-add-t13
+add-t13 c = search needs
+
+same-length : tie.Need-same-length
+same-length c = search needs
+
+same-length-2 : tie.Need-same-length-2
+same-length-2 c = search needs
+
+returns-2 : tie.Need-returns-2
+returns-2 c = λ text job lows₀ highs₀ flat₀ flat holds.
+    let v = c .before in
+    let s = v .before .before .before in
+    let a = s .args in
+    let u : UnitLine = record { low = a .low; high = a .high } in
+    let good = sym (v .unit-verdict .ensures) ∙ c .if1 .left in
+    (add job (unit u), unit-next job (a .progress) _ holds u _ good, unit-holds job (a .progress) _ holds u good (s .pre .1) (s .pre .2))
+
+pub take-unit-spec : {M : Type 1} → statement M
+take-unit-spec =
+    tie.close
+    (tie.spec
+    unit-verdict-requires
+    refuse-requires
+    returns
+    mul-lows
+    slice-write-lows
+    mul-highs
+    slice-write-highs
+    add-t13
+    same-length
+    same-length-2
+    returns-2)

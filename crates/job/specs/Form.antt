@@ -1,0 +1,129 @@
+-- The lines of a job text: what a line says, how it is printed, and how it is read. Assumes nothing.
+use Prim.Native.Nat.{ℕ, zero, suc}
+use mathlib.Core.List.{List, [], _∷_, _++_}
+use lib.ListN.{length}
+use Rattle.model.specs.declared.Limit.{Limit}
+use Rattle.model.specs.declared.Limit.the-variants.{Any, AtMost}
+use Rattle.model.specs.declared.Limits.{Limits}
+use Rattle.job.specs.declared.lines.Head.{Head}
+use Rattle.text.specs.Parsed.{Parsed, parsed, failed, andThen, mapped, orElse, word}
+use Rattle.text.specs.Numbers.{numberAfter, printNumber}
+
+-- 01: "A unit line holds low, high"
+pub record UnitLine : Type 0 where
+  pub low : ℕ
+  pub high : ℕ
+
+-- 01: "A group line holds total, deviation limit, spread limit and one or more unit numbers"
+pub record GroupLine : Type 0 where
+  pub total : ℕ
+  pub limits : Limits
+  pub first : ℕ
+  pub others : List ℕ
+
+pub data Line : Type 0 where
+  unit : UnitLine → Line
+  group : GroupLine → Line
+
+-- (unit
+abbrev pub unitOpening : List ℕ
+unitOpening = 40 ∷ 117 ∷ 110 ∷ 105 ∷ 116 ∷ 32 ∷ []
+
+abbrev pub space : List ℕ
+space = 32 ∷ []
+
+-- the closing bracket and the line's end
+abbrev pub unitEnding : List ℕ
+unitEnding = 41 ∷ 10 ∷ []
+
+-- (group
+abbrev pub groupOpening : List ℕ
+groupOpening = 40 ∷ 103 ∷ 114 ∷ 111 ∷ 117 ∷ 112 ∷ 32 ∷ []
+
+-- (dev
+abbrev pub deviationOpening : List ℕ
+deviationOpening = 32 ∷ 40 ∷ 100 ∷ 101 ∷ 118 ∷ 32 ∷ []
+
+-- ) (spread
+abbrev pub spreadOpening : List ℕ
+spreadOpening = 41 ∷ 32 ∷ 40 ∷ 115 ∷ 112 ∷ 114 ∷ 101 ∷ 97 ∷ 100 ∷ 32 ∷ []
+
+-- ) (of
+abbrev pub membersOpening : List ℕ
+membersOpening = 41 ∷ 32 ∷ 40 ∷ 111 ∷ 102 ∷ []
+
+-- both closing brackets and the line's end
+abbrev pub groupEnding : List ℕ
+groupEnding = 41 ∷ 41 ∷ 10 ∷ []
+
+-- any
+abbrev pub anyWord : List ℕ
+anyWord = 97 ∷ 110 ∷ 121 ∷ []
+
+-- 01: "Each limit is either a number or the word any"
+unfoldable pub printLimit : Limit → List ℕ
+printLimit Any = anyWord
+printLimit (AtMost v) = printNumber v
+
+-- each number after a space
+unfoldable pub printMembers : List ℕ → List ℕ
+printMembers [] = []
+printMembers (m ∷ ms) = space ++ (printNumber m ++ printMembers ms)
+
+-- a line as it is written: the form of 01
+unfoldable pub printLine : Line → List ℕ
+printLine (unit l) = unitOpening ++ (printNumber (l .low) ++ (space ++ (printNumber (l .high) ++ unitEnding)))
+printLine (group g) =
+    groupOpening
+    ++ (printNumber (g .total)
+    ++ (deviationOpening
+    ++ (printLimit (g .limits .deviation)
+    ++ (spreadOpening
+    ++ (printLimit (g .limits .spread)
+    ++ (membersOpening ++ (printMembers (g .first ∷ g .others) ++ groupEnding)))))))
+
+-- a word and the number after it, held by a function of its value: the code holds numbers above every limit alike
+unfoldable pub numberAs : (ℕ → ℕ) → List ℕ → List ℕ → Parsed ℕ
+numberAs f w s = mapped f (numberAfter w s)
+
+-- a word and the limit after it
+unfoldable pub limitAs : (ℕ → ℕ) → List ℕ → List ℕ → Parsed Limit
+limitAs f w s = andThen (word w s) (λ u s. orElse (mapped (λ u. Any) (word anyWord s)) (mapped AtMost (numberAs f [] s)))
+
+unfoldable pub unitAs : (ℕ → ℕ) → List ℕ → Parsed UnitLine
+unitAs f s =
+    andThen (numberAs f unitOpening s)
+    (λ low s. andThen (numberAs f space s)
+    (λ high s. mapped (λ u. record { low = low; high = high }) (word unitEnding s)))
+
+-- as many members as stand there, at most n
+unfoldable pub membersAs : (ℕ → ℕ) → ℕ → List ℕ → Parsed (List ℕ)
+membersAs f zero s = parsed [] s
+membersAs f (suc n) s = orElse (andThen (numberAs f space s) (λ m s. mapped (λ ms. m ∷ ms) (membersAs f n s))) (parsed [] s)
+
+-- a group line up to its members
+unfoldable pub headAs : (ℕ → ℕ) → List ℕ → Parsed Head
+headAs f s =
+    andThen (numberAs f groupOpening s)
+    (λ total s. andThen (limitAs f deviationOpening s)
+    (λ deviation s. andThen (limitAs f spreadOpening s)
+    (λ spread s. mapped (λ u. record { total = total; limits = record { deviation = deviation; spread = spread } }) (word membersOpening s))))
+
+-- with its members, one or more
+unfoldable pub grouped : Head → List ℕ → List ℕ → Parsed GroupLine
+grouped h [] s = failed
+grouped h (m ∷ ms) s = parsed (record { total = h .total; limits = h .limits; first = m; others = ms }) s
+
+unfoldable pub groupAs : (ℕ → ℕ) → List ℕ → Parsed GroupLine
+groupAs f s =
+    andThen (headAs f s)
+    (λ h s. andThen (membersAs f (length s) s)
+    (λ ms s. andThen (word groupEnding s)
+    (λ u s. grouped h ms s)))
+
+unfoldable pub lineAs : (ℕ → ℕ) → List ℕ → Parsed Line
+lineAs f s = orElse (mapped unit (unitAs f s)) (mapped group (groupAs f s))
+
+-- the line at the front of a text, and what follows it
+unfoldable pub line : List ℕ → Parsed Line
+line s = lineAs (λ v. v) s

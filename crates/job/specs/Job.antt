@@ -1,0 +1,169 @@
+-- Reading a job text: a fold over its lines, with the refusals 2 to 10. Assumes nothing.
+use Prim.Native.Nat.{ℕ, zero, suc, _+_, _-_}
+use mathlib.Core.Bool.{Bool, true, false, not, _&&_, _||_}
+use mathlib.Core.List.{List, [], _∷_, _++_, map}
+use lib.Dec.{leb, ltb, eqb}
+use lib.ListN.{length}
+use Rattle.model.specs.Shares.{pick, greatestShare}
+use Rattle.model.specs.Groups.{Group}
+use Rattle.model.specs.declared.Limit.{Limit}
+use Rattle.model.specs.declared.Limit.the-variants.{Any, AtMost}
+use Rattle.model.specs.declared.Limits.{Limits}
+use Rattle.model.specs.declared.Refusal.{Refusal}
+use Rattle.text.specs.Parsed.{Parsed, parsed, failed}
+use Rattle.job.specs.Form.{UnitLine, GroupLine, Line, unit, group, line}
+
+-- a job: the ranges of its units, and its groups
+pub record Job : Type 0 where
+  pub lows : List ℕ
+  pub highs : List ℕ
+  pub groups : List Group
+
+-- 01: the limits of a job
+abbrev pub greatestTotal : ℕ
+greatestTotal = 256_000_000
+
+abbrev pub greatestDeviation : ℕ
+greatestDeviation = 100_000_000_000
+
+abbrev pub greatestSpread : ℕ
+greatestSpread = 100_000_000_000_000_000
+
+abbrev pub mostUnits : ℕ
+mostUnits = 256
+
+abbrev pub mostGroups : ℕ
+mostGroups = 64
+
+abbrev pub mostMemberships : ℕ
+mostMemberships = 4096
+
+-- the numbers that the groups take in the flat list: 4 for each group, and the memberships
+abbrev pub mostFlat : ℕ
+mostFlat = 4352
+
+abbrev pub mostBytes : ℕ
+mostBytes = 65_536
+
+-- 01: memberships, "the sum of the groups' n"
+unfoldable pub memberships : List Group → ℕ
+memberships [] = 0
+memberships (g ∷ gs) = length (g .members) + memberships gs
+
+abbrev pub limitUpTo : ℕ → Limit → Bool
+limitUpTo most Any = true
+limitUpTo most (AtMost v) = leb v most
+
+-- a unit number from 1 to the count
+abbrev pub named : ℕ → ℕ → Bool
+named units m = leb 1 m && leb m units
+
+unfoldable pub allNamed : ℕ → List ℕ → Bool
+allNamed units [] = true
+allNamed units (m ∷ ms) = named units m && allNamed units ms
+
+unfoldable pub holds : ℕ → List ℕ → Bool
+holds x [] = false
+holds x (y ∷ ys) = eqb x y || holds x ys
+
+unfoldable pub distinct : List ℕ → Bool
+distinct [] = true
+distinct (x ∷ xs) = not (holds x xs) && distinct xs
+
+-- the number of a refusal unless the test holds, and what comes after it
+abbrev pub unless : Bool → ℕ → ℕ → ℕ
+unless good number rest = pick good rest number
+
+-- 01: the refusal of a unit line in the form, 0 where there is none
+unfoldable pub unitVerdict : ℕ → ℕ → UnitLine → ℕ
+unitVerdict units groups l =
+    unless (leb (l .low) greatestShare) 4
+    (unless (leb (l .high) greatestShare) 4
+    (unless (eqb groups 0) 5
+    (unless (ltb units mostUnits) 6
+    (unless (leb (l .low) (l .high)) 7 0))))
+
+-- 01: the refusal of a group line by its head and the number of its members, 0 where there is none
+unfoldable pub headVerdict : ℕ → ℕ → ℕ → Limits → ℕ → ℕ
+headVerdict groups taken total limits count =
+    unless (leb total greatestTotal) 4
+    (unless (limitUpTo greatestDeviation (limits .deviation)) 4
+    (unless (limitUpTo greatestSpread (limits .spread)) 4
+    (unless (ltb groups mostGroups) 6
+    (unless (leb (taken + count) mostMemberships) 6 0))))
+
+-- 01: and by its members
+unfoldable pub membersVerdict : ℕ → List ℕ → ℕ
+membersVerdict units ms = unless (allNamed units ms) 8 (unless (distinct ms) 9 0)
+
+-- the first of two refusals
+abbrev pub first : ℕ → ℕ → ℕ
+first zero b = b
+first (suc a) b = suc a
+
+unfoldable pub verdict : Job → Line → ℕ
+verdict job (unit l) = unitVerdict (length (job .lows)) (length (job .groups)) l
+verdict job (group g) =
+    let ms : List ℕ = g .first ∷ g .others in
+    first (headVerdict (length (job .groups)) (memberships (job .groups)) (g .total) (g .limits) (length ms)) (membersVerdict (length (job .lows)) ms)
+
+-- a member is the unit's number less 1
+abbrev pub memberOf : ℕ → ℕ
+memberOf m = m - 1
+
+abbrev pub groupOf : GroupLine → Group
+groupOf g = record { total = g .total; limits = g .limits; members = map memberOf (g .first ∷ g .others) }
+
+-- the job with one line more
+unfoldable pub add : Job → Line → Job
+add job (unit l) = record { lows = job .lows ++ l .low ∷ []; highs = job .highs ++ l .high ∷ []; groups = job .groups }
+add job (group g) = record { lows = job .lows; highs = job .highs; groups = job .groups ++ groupOf g ∷ [] }
+
+-- what one line does: the job with it and the rest of the text, or a refusal
+pub data Stepped : Type 0 where
+  next : Job → List ℕ → Stepped
+  stop : Refusal → Stepped
+
+abbrev pub refusal : ℕ → ℕ → Refusal
+refusal number place = record { number = number; place = place }
+
+-- the number of the line after a job's lines
+abbrev pub placeOf : Job → ℕ
+placeOf job = length (job .lows) + length (job .groups) + 1
+
+abbrev pub judged : ℕ → Job → List ℕ → ℕ → Stepped
+judged zero job s place = next job s
+judged (suc number) job s place = stop (refusal (suc number) place)
+
+unfoldable pub stepOn : Job → Parsed Line → Stepped
+stepOn job (parsed l s) = judged (verdict job l) (add job l) s (placeOf job)
+stepOn job failed = stop (refusal 3 (placeOf job))
+
+-- what reading a text gives
+pub data Outcome : Type 0 where
+  accepted : Job → Outcome
+  refused : Refusal → Outcome
+
+-- goes on with the job and the rest, or stops
+unfoldable pub onward : (Job → List ℕ → Outcome) → Stepped → Outcome
+onward k (next job s) = k job s
+onward k (stop r) = refused r
+
+-- the lines of a text, at most n, after a job's lines
+unfoldable pub readLines : ℕ → Job → List ℕ → Outcome
+readLines zero job s = accepted job
+readLines (suc n) job [] = accepted job
+readLines (suc n) job (b ∷ s) = onward (λ job s. readLines n job s) (stepOn job (line (b ∷ s)))
+
+abbrev pub noLines : Job
+noLines = record { lows = []; highs = []; groups = [] }
+
+-- 01: 10 "no unit line"
+unfoldable pub someUnit : Outcome → Outcome
+someUnit (accepted job) = pick (eqb (length (job .lows)) 0) (refused (refusal 10 0)) (accepted job)
+someUnit (refused r) = refused r
+
+-- 01: 2 first, "then the first bad line with the lowest of 3 to 9, then 10"
+unfoldable pub readJob : List ℕ → Outcome
+readJob text =
+    pick (leb (length text) mostBytes) (someUnit (readLines (length text) noLines text)) (refused (refusal 2 0))

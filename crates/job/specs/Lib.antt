@@ -1,0 +1,13 @@
+pub mod Form
+pub mod Spelling
+pub mod Job
+pub mod Flat
+pub mod Distinct
+pub mod Verdicts
+pub mod Held
+pub mod Tally
+pub mod Seen
+pub mod Steps
+pub mod Taking
+pub mod Reading
+pub mod Scanning

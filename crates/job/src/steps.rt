@@ -1,0 +1,244 @@
+// Taking the lines of a job text one by one: the refusals of a line, and what it adds to the lists.
+ghost use mathlib.Core.Path.{_≡_};
+ghost use mathlib.Core.Bool.{true};
+ghost use mathlib.Core.List.{List, _∷_, []};
+ghost use Prim.Native.Nat.{ℕ, _+_, _≤_, _<_};
+ghost use lib.ListN.{length, drop, replicate};
+ghost use lib.Seq.{sets};
+ghost use Rattle.job.specs.Job.{mostBytes, mostUnits, mostFlat, refusal, limitUpTo, unitVerdict, headVerdict, distinct};
+ghost use Rattle.job.specs.Flat.{limitCode};
+ghost use Rattle.job.specs.Distinct.{AllBelow, freshBy};
+ghost use Rattle.job.specs.Steps.{Bounded, UnitTaken, GroupTaken, LineTaken};
+ghost use Rattle.job.specs.Taking.{placeAt};
+ghost use Rattle.text.specs.Numbers.{most as mostNumber};
+use crate::lines::GroupRead;
+use crate::lines::Head;
+use crate::lines::UnitRead;
+use crate::lines::group_line;
+use crate::lines::unit_line;
+use model::Limit;
+use model::Refusal;
+use model::Share;
+use text::Spot;
+
+// What was read so far.
+pub struct Progress {
+    pub units: usize,
+    pub groups: usize,
+    pub memberships: usize,
+}
+
+// What taking a line answers: what was read with it, and the spot after it.
+pub enum Taken {
+    Line(Progress, Spot),
+    Refused(Refusal),
+}
+
+pub const MOST_UNITS: usize = 256;
+
+pub const MOST_GROUPS: usize = 64;
+
+pub const MOST_MEMBERSHIPS: usize = 4096;
+
+const MOST_TOTAL: u64 = 256_000_000;
+
+const MOST_DEVIATION: u64 = 100_000_000_000;
+
+const MOST_SPREAD: u64 = 100_000_000_000_000_000;
+
+// The refusal of a unit line, 0 where there is none.
+fn unit_verdict(progress: Progress, low: u64, high: u64) -> u64
+    ensures { λ r. ⌜ r ≡ unitVerdict (progress .units) (progress .groups) (record { low = low; high = high }) ⌝ }
+{
+    if Share::GREATEST < low {
+        return 4;
+    }
+    if Share::GREATEST < high {
+        return 4;
+    }
+    if progress.groups != 0 {
+        return 5;
+    }
+    if MOST_UNITS <= progress.units {
+        return 6;
+    }
+    if high < low {
+        return 7;
+    }
+    0
+}
+
+fn limit_up_to(limit: Limit, most: u64) -> bool
+    ensures { λ r. ⌜ r ≡ limitUpTo most limit ⌝ }
+{
+    match limit {
+        Limit::Any => true,
+        Limit::AtMost(number) => number <= most,
+    }
+}
+
+// The refusal of a group line by its head and the number of its members, 0 where there is none.
+fn head_verdict(progress: Progress, head: Head, count: usize) -> u64
+    requires { ⌜ Bounded progress ⌝ }
+    ensures { λ r. ⌜ r ≡ headVerdict (progress .groups) (progress .memberships) (head .total) (head .limits) count ⌝ }
+{
+    if MOST_TOTAL < head.total {
+        return 4;
+    }
+    let limits = head.limits;
+    let deviation = limits.deviation;
+    if !limit_up_to(deviation, MOST_DEVIATION) {
+        return 4;
+    }
+    let spread = limits.spread;
+    if !limit_up_to(spread, MOST_SPREAD) {
+        return 4;
+    }
+    if MOST_GROUPS <= progress.groups {
+        return 6;
+    }
+    if MOST_MEMBERSHIPS - progress.memberships < count {
+        return 6;
+    }
+    0
+}
+
+// Whether no number is met marked, where each is marked when met.
+fn fresh_by(members: &[u64], marks: &mut [u64]) -> bool
+    requires { ⌜ AllBelow (length (now marks)) (now members) ⌝ }
+    ensures { λ r. ⌜ r ≡ freshBy (now (marks .entry)) (now (members .entry)) ⌝ }
+{
+    let mut i = 0;
+    while i < members.len() {
+        let member = members[i] as usize;
+        if marks[member] != 0 {
+            return false;
+        }
+        marks[member] = 1;
+        i += 1;
+    }
+    true
+}
+
+fn are_distinct(members: &[u64]) -> bool
+    requires { ⌜ AllBelow 256 (now members) ⌝ }
+    ensures { λ r. ⌜ r ≡ distinct (now (members .entry)) ⌝ }
+{
+    let mut marks = [0u64; 256];
+    fresh_by(members, &mut marks)
+}
+
+fn limit_code(limit: Limit) -> u64
+    requires { ⌜ limitUpTo mostNumber limit ≡ true ⌝ }
+    ensures { λ r. ⌜ r ≡ limitCode limit ⌝ }
+{
+    match limit {
+        Limit::Any => 0,
+        Limit::AtMost(number) => number + 1,
+    }
+}
+
+// Stores a group's head: its total, the codes of its limits, and the number of its members.
+fn put_head(flat: &mut [u64], at: usize, head: Head, count: usize)
+    requires { ⌜ (at + 4 ≤ length (now flat)) × (limitUpTo mostNumber (head .limits .deviation) ≡ true) × (limitUpTo mostNumber (head .limits .spread) ≡ true) ⌝ }
+    ensures { λ _. ⌜ now (flat .exit) ≡ sets (now (flat .entry)) at (head .total ∷ limitCode (head .limits .deviation) ∷ limitCode (head .limits .spread) ∷ count ∷ []) ⌝ }
+{
+    let limits = head.limits;
+    let deviation = limits.deviation;
+    let spread = limits.spread;
+    let first = limit_code(deviation);
+    let second = limit_code(spread);
+    flat[at] = head.total;
+    flat[at + 1] = first;
+    flat[at + 2] = second;
+    flat[at + 3] = count as u64;
+}
+
+// The refusal of the line after what was read.
+fn refuse(progress: Progress, number: u64) -> Taken
+    requires { ⌜ Bounded progress ⌝ }
+    ensures { λ r. ⌜ r ≡ Taken.Refused (refusal number (placeAt progress)) ⌝ }
+{
+    let place = (progress.units + progress.groups + 1) as u64;
+    Taken::Refused(Refusal { number, place })
+}
+
+fn take_unit(
+    progress: Progress,
+    low: u64,
+    high: u64,
+    spot: Spot,
+    lows: &mut [u64],
+    highs: &mut [u64],
+) -> Taken
+    requires { ⌜ Bounded progress × (mostUnits ≤ length (now lows)) × (mostUnits ≤ length (now highs)) ⌝ }
+    ensures { λ r. ⌜ UnitTaken progress (record { low = low; high = high }) (spot .at) (now (lows .entry)) (now (highs .entry)) (now (lows .exit)) (now (highs .exit)) r ⌝ }
+{
+    let number = unit_verdict(progress, low, high);
+    if number != 0 {
+        return refuse(progress, number);
+    }
+    let units = progress.units;
+    let groups = progress.groups;
+    let memberships = progress.memberships;
+    lows[units] = low;
+    highs[units] = high;
+    let more = Progress {
+        units: units + 1,
+        groups,
+        memberships,
+    };
+    Taken::Line(more, spot)
+}
+
+fn take_group(text: &[u8], spot: Spot, progress: Progress, flat: &mut [u64]) -> Taken
+    requires { ⌜ Bounded progress × (length (now text) ≤ mostBytes) × (mostFlat ≤ length (now flat)) ⌝ }
+    ensures { λ r. ⌜ GroupTaken (now (text .entry)) progress (spot .at) (now (flat .entry)) (now (flat .exit)) r ⌝ }
+{
+    let units = progress.units;
+    let groups = progress.groups;
+    let memberships = progress.memberships;
+    let at = groups * 4 + memberships;
+    let from = at + 4;
+    let GroupRead::Is(head, members) = group_line(text, spot, flat, from, units) else {
+        return refuse(progress, 3);
+    };
+    let count = members.count;
+    let number = head_verdict(progress, head, count);
+    if number != 0 {
+        return refuse(progress, number);
+    }
+    let within = members.within;
+    if !within {
+        return refuse(progress, 8);
+    }
+    if !are_distinct(&flat[from..from + count]) {
+        return refuse(progress, 9);
+    }
+    put_head(flat, at, head, count);
+    let more = Progress {
+        units,
+        groups: groups + 1,
+        memberships: memberships + count,
+    };
+    let next = members.next;
+    Taken::Line(more, next)
+}
+
+// Takes the line at a spot: what it adds to the lists, or its refusal.
+pub fn take_line(
+    text: &[u8],
+    spot: Spot,
+    progress: Progress,
+    lows: &mut [u64],
+    highs: &mut [u64],
+    flat: &mut [u64],
+) -> Taken
+    requires { ⌜ Bounded progress × (length (now text) ≤ mostBytes) × (mostUnits ≤ length (now lows)) × (mostUnits ≤ length (now highs)) × (mostFlat ≤ length (now flat)) ⌝ }
+    ensures { λ r. ⌜ LineTaken (now (text .entry)) progress (spot .at) (now (lows .entry)) (now (highs .entry)) (now (flat .entry)) (now (lows .exit)) (now (highs .exit)) (now (flat .exit)) r ⌝ }
+{
+    let UnitRead::Range(low, high, next) = unit_line(text, spot) else {
+        return take_group(text, spot, progress, flat);
+    };
+    take_unit(progress, low, high, next, lows, highs)
+}

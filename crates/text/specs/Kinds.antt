@@ -1,0 +1,15 @@
+-- The six kinds of a byte. Assumes nothing.
+use Prim.Native.Nat.{ℕ}
+use mathlib.Core.Bool.{Bool, true, false, _&&_}
+use lib.Dec.{leb, eqb}
+use Rattle.model.specs.Shares.{pick}
+use Rattle.text.specs.declared.Kind.{Kind}
+use Rattle.text.specs.declared.Kind.the-variants.{Opening, Closing, Space, Digit, Letter, Foreign}
+
+-- 01: "40 opening, 41 closing, 32 space, 48 to 57 digit, 97 to 122 letter, all others foreign"
+abbrev pub kindOf : ℕ → Kind
+kindOf byte =
+    pick (eqb byte 40) Opening
+    (pick (eqb byte 41) Closing
+    (pick (eqb byte 32) Space
+    (pick (leb 48 byte && leb byte 57) Digit (pick (leb 97 byte && leb byte 122) Letter Foreign))))

@@ -1,0 +1,6 @@
+pub mod Kinds
+pub mod Parsed
+pub mod Numbers
+pub mod Printed
+pub mod Spots
+pub mod Tests
