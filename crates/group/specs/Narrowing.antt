@@ -1,17 +1,13 @@
 -- What narrowing one group on lists answers, and the lists after it. Assumes nothing.
 use Prim.Native.Nat.{ℕ}
-use mathlib.Core.Bool.{Bool, true, _&&_}
 use mathlib.Core.List.{List}
-use lib.Dec.{leb}
+use mathlib.Core.Path.{_≡_}
 use lib.ListN.{length}
 use Rattle.model.specs.Plans.{turnOf}
-use Rattle.model.specs.declared.Limit.{Limit}
-use Rattle.model.specs.declared.Limit.the-variants.{Any, AtMost}
 use Rattle.model.specs.declared.Limits.{Limits}
 use Rattle.model.specs.declared.Turn.{Turn}
 use Rattle.model.specs.declared.Turn.the-variants.{NoPlan}
-use Rattle.group.specs.Sound.{greatestTotal}
-use Rattle.group.specs.Checks.{checkLists}
+use Rattle.group.specs.Checks.{amountsWithin, checkLists}
 use Rattle.group.specs.declared.Check.{Check}
 use Rattle.group.specs.declared.Check.the-variants.{Passed, Failed}
 use Rattle.group.specs.declared.Narrowing.{Narrowing}
@@ -21,22 +17,6 @@ use Rattle.group.specs.declared.Narrowing.the-variants.{Refused}
 abbrev pub afterTurn : Turn → List ℕ → List ℕ → List ℕ
 afterTurn Turn.Narrowed narrowed was = narrowed
 afterTurn (NoPlan number) narrowed was = was
-
--- 01: "the deviation limit 0 to 100,000,000,000, the spread limit 0 to 100,000,000,000,000,000"
-abbrev pub greatestDeviation : ℕ
-greatestDeviation = 100_000_000_000
-
-abbrev pub greatestSpread : ℕ
-greatestSpread = 100_000_000_000_000_000
-
-abbrev pub limitWithin : Limit → ℕ → Bool
-limitWithin Any greatest = true
-limitWithin (AtMost most) greatest = leb most greatest
-
--- 01, 4 for total and limits: each is in its range
-abbrev pub amountsWithin : ℕ → Limits → Bool
-amountsWithin total limits =
-    leb total greatestTotal && (limitWithin (limits .deviation) greatestDeviation && limitWithin (limits .spread) greatestSpread)
 
 -- a turn's answer as that of a call on lists: a refusal has place 0
 abbrev pub afterCheck : Check → Turn → Narrowing
@@ -53,3 +33,24 @@ narrowing lows highs total limits =
 abbrev pub listAfter : Narrowing → List ℕ → List ℕ → List ℕ
 listAfter Narrowing.Narrowed narrowed was = narrowed
 listAfter (Refused refusal) narrowed was = was
+
+-- a turn that narrows leaves the narrowed list, and one without a plan the list that was
+pub after-narrowed : {turn : Turn} (narrowed was list : List ℕ) → turn ≡ Turn.Narrowed → list ≡ afterTurn turn narrowed was → list ≡ narrowed
+after-narrowed narrowed was list is-turn held = rw is-turn at held
+
+pub after-refused : {turn : Turn} {number : ℕ} (narrowed was list : List ℕ) → turn ≡ NoPlan number → list ≡ afterTurn turn narrowed was
+    → list ≡ was
+after-refused narrowed was list is-turn held = rw is-turn at held
+
+-- where the lists pass the checks, the answer is the turn's
+module _ (lows highs : List ℕ) (total : ℕ) (limits : Limits)
+    (passed : checkLists lows highs (length lows) (amountsWithin total limits) ≡ Passed) where
+  pub answer-narrowed : {turn : Turn} → turn ≡ turnOf lows highs total limits → turn ≡ Turn.Narrowed
+      → Narrowing.Narrowed ≡ narrowing lows highs total limits
+  unfolding narrowing
+  answer-narrowed held is-turn = rw (passed, ← held, is-turn)
+
+  pub answer-refused : {turn : Turn} {number : ℕ} → turn ≡ turnOf lows highs total limits → turn ≡ NoPlan number
+      → Refused (record { number = number; place = 0 }) ≡ narrowing lows highs total limits
+  unfolding narrowing
+  answer-refused held is-turn = rw (passed, ← held, is-turn)

@@ -1,11 +1,16 @@
 // The checks on the lists of one group, in the order of the specification.
 use crate::Check;
 use crate::GREATEST_COUNT;
+use crate::GREATEST_DEVIATION;
+use crate::GREATEST_SPREAD;
+use crate::GREATEST_TOTAL;
+use model::Limit;
+use model::Limits;
 use model::Refusal;
 use model::Share;
 ghost use mathlib.Core.Path.{_≡_};
 ghost use lib.ListN.{length};
-ghost use Rattle.group.specs.Checks.{firstBeyond, firstCrossed, sized, refuseIf, checkLists};
+ghost use Rattle.group.specs.Checks.{firstBeyond, firstCrossed, sized, limitWithin, amountsWithin, refuseIf, checkLists};
 ghost use Rattle.group.specs.declared.Check.the-variants.{Passed};
 ghost use mathlib.Core.Bool.{true};
 
@@ -56,6 +61,31 @@ fn is_sized(count: usize, other: usize, room: usize) -> bool
         return false;
     }
     count <= room
+}
+
+// Whether a limit is any or a number in its range.
+fn limit_within(limit: Limit, greatest: u64) -> bool
+    ensures { λ r. ⌜ r ≡ limitWithin limit greatest ⌝ }
+{
+    match limit {
+        Limit::Any => true,
+        Limit::AtMost(most) => most <= greatest,
+    }
+}
+
+// Whether total and limits are in their ranges.
+pub fn amounts_within(total: u64, limits: Limits) -> bool
+    ensures { λ r. ⌜ r ≡ amountsWithin total limits ⌝ }
+{
+    let deviation = limits.deviation;
+    let spread = limits.spread;
+    if GREATEST_TOTAL < total {
+        return false;
+    }
+    if !limit_within(deviation, GREATEST_DEVIATION) {
+        return false;
+    }
+    limit_within(spread, GREATEST_SPREAD)
 }
 
 // A refusal by number and place.

@@ -1,21 +1,27 @@
 // Levelling and narrowing one group on lists.
+use crate::checks::amounts_within;
 use crate::checks::check_lists;
 use crate::plans::figures_at;
 use crate::plans::has_shares;
+use crate::ranges::narrow_core;
 use crate::shares::fill_plan;
 use crate::shares::level_at;
 use crate::shares::remainder_at;
 use model::Checked;
 use model::Deviation;
+use model::Limits;
 use model::Refusal;
 use model::Share;
 use model::Spread;
+use model::Turn;
 ghost use mathlib.Core.Path.{_≡_};
 ghost use Prim.Native.Nat.{_≤_};
 ghost use lib.ListN.{length};
 ghost use Rattle.model.specs.Levels.{levelled};
+ghost use Rattle.model.specs.Plans.{narrowedLows, narrowedHighs};
 ghost use Rattle.group.specs.Sound.{Sound};
 ghost use Rattle.group.specs.Levelling.{levelledTo, levelling, planAfter};
+ghost use Rattle.group.specs.Narrowing.{narrowing, listAfter};
 
 pub mod checks;
 pub mod plans;
@@ -27,6 +33,12 @@ pub const GREATEST_COUNT: usize = 256;
 
 // A group's total is at most this.
 pub const GREATEST_TOTAL: u64 = 256_000_000;
+
+// A deviation limit is at most this.
+pub const GREATEST_DEVIATION: u64 = 100_000_000_000;
+
+// A spread limit is at most this.
+pub const GREATEST_SPREAD: u64 = 100_000_000_000_000_000;
 
 // Both figures of a group's shares.
 pub struct Figures {
@@ -98,4 +110,20 @@ pub fn level(lows: &[u64], highs: &[u64], total: u64, plan: &mut [u64]) -> Level
         Check::Failed(refusal) => Levelling::Refused(refusal),
         Check::Passed => level_core(lows, highs, total, plan),
     }
+}
+
+// Narrows a group on lists, in place.
+pub fn narrow(lows: &mut [u64], highs: &mut [u64], total: u64, limits: Limits) -> Narrowing
+    ensures { λ r. ⌜ r ≡ narrowing (now (lows .entry)) (now (highs .entry)) total limits ⌝ }
+    ensures { λ r. ⌜ now (lows .exit) ≡ listAfter r (narrowedLows (now (lows .entry)) (now (highs .entry)) total limits) (now (lows .entry)) ⌝ }
+    ensures { λ r. ⌜ now (highs .exit) ≡ listAfter r (narrowedHighs (now (lows .entry)) (now (highs .entry)) total limits) (now (highs .entry)) ⌝ }
+{
+    let check = check_lists(lows, highs, lows.len(), amounts_within(total, limits));
+    if let Check::Failed(refusal) = check {
+        return Narrowing::Refused(refusal);
+    }
+    let Turn::NoPlan(number) = narrow_core(lows, highs, total, limits) else {
+        return Narrowing::Narrowed;
+    };
+    Narrowing::Refused(Refusal { number, place: 0 })
 }
