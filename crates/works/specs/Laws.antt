@@ -12,3 +12,4 @@ pub mod Running
 pub mod Ends
 pub mod Settled
 pub mod Checked
+pub mod Accepted
