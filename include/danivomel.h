@@ -113,6 +113,25 @@ danivomel_counts danivomel_read(
     uint64_t *lows, size_t lows_count,
     uint64_t *highs, size_t highs_count);
 
+/* What settling answers: the passes, the quiet or refusing one counted; 0 where it is refused ahead of the first. */
+typedef struct {
+    danivomel_refusal refusal;
+    uint64_t passes;
+} danivomel_settled;
+
+/*
+ * Settles a table under the groups of a job text: opens with the ranges that lows and highs hold, and leaves the
+ * greatest ranges inside them in which each value is taken, in each of its unit's groups, by a plan drawn from them.
+ * The scratch has 8 numbers a unit; what it held changes nothing, and it holds anything afterwards.
+ * Refuses, in this order: as reading up to 10; 1 for lows, highs or scratch too short for the units; 4, then 7 for the
+ * ranges, place the first such unit; 11 and 12, place the group, where no such ranges exist.
+ */
+danivomel_settled danivomel_settle(
+    const uint8_t *text, size_t text_count,
+    uint64_t *lows, size_t lows_count,
+    uint64_t *highs, size_t highs_count,
+    uint64_t *scratch, size_t scratch_count);
+
 #ifdef __cplusplus
 }
 #endif

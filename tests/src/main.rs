@@ -54,4 +54,11 @@ fn proved_planner(checks: &mut Checks) {
         topics::lines::run(checks, who, planner::read);
         topics::calls::run_read(checks, who, planner::read);
     }
+    #[cfg(feature = "settle")]
+    {
+        topics::settle::run(checks, who, planner::settle);
+        topics::settle::compare(checks, who, planner::settle);
+        topics::tables::run(checks, who, planner::settle);
+        topics::calls::run_settle(checks, who, planner::settle);
+    }
 }

@@ -5,6 +5,8 @@
 #[cfg(feature = "read")]
 use crate::answers::Counts;
 use crate::answers::{Deviation, Levelled, Refusal, Spread};
+#[cfg(feature = "settle")]
+use crate::answers::Unsettled;
 #[cfg(feature = "narrow")]
 use crate::answers::{Limit, Limits};
 
@@ -42,6 +44,14 @@ struct ForeignRead {
     groups: usize,
 }
 
+/// What settling answers across the border.
+#[cfg(feature = "settle")]
+#[repr(C)]
+struct ForeignSettled {
+    refusal: Refusal,
+    passes: u64,
+}
+
 extern "C" {
     fn danivomel_level(
         lows: *const u64,
@@ -72,6 +82,18 @@ extern "C" {
         highs: *mut u64,
         highs_count: usize,
     ) -> ForeignRead;
+
+    #[cfg(feature = "settle")]
+    fn danivomel_settle(
+        text: *const u8,
+        text_count: usize,
+        lows: *mut u64,
+        lows_count: usize,
+        highs: *mut u64,
+        highs_count: usize,
+        scratch: *mut u64,
+        scratch_count: usize,
+    ) -> ForeignSettled;
 }
 
 /// A refusal as an error, and number 0 as none.
@@ -151,4 +173,36 @@ pub fn read(text: &[u8], lows: &mut [u64], highs: &mut [u64]) -> Result<Counts, 
     };
     accepted(answer.refusal)?;
     Ok(Counts { units: answer.units as u64, groups: answer.groups as u64 })
+}
+
+/// Settles a table under the groups of a job text: opens with the ranges that lows and highs hold, narrows them until
+/// nothing moves, and answers the passes. The scratch has 8 numbers a unit.
+///
+/// Refuses as reading does up to 10; 1 for a table or scratch too short for the units; 4, then 7 for the ranges; 11 and
+/// 12 where no table inside the opening one is at rest.
+///
+/// ```
+/// use danivomel_tests::planner::settle;
+/// let job = b"(unit 0 10)\n(unit 0 10)\n(group 10 (dev 4) (spread any) (of 1 2))\n";
+/// let (mut lows, mut highs) = ([0, 0], [10, 10]);
+/// assert_eq!(settle(job, &mut lows, &mut highs, &mut [0; 16]), Ok(2));
+/// assert_eq!((lows, highs), ([4, 4], [6, 6]));
+/// ```
+#[cfg(feature = "settle")]
+pub fn settle(text: &[u8], lows: &mut [u64], highs: &mut [u64], scratch: &mut [u64]) -> Result<u64, Unsettled> {
+    // SAFETY: each pointer and count is a slice's, and the slices do not overlap, since three are borrowed mutably.
+    let answer = unsafe {
+        danivomel_settle(
+            text.as_ptr(),
+            text.len(),
+            lows.as_mut_ptr(),
+            lows.len(),
+            highs.as_mut_ptr(),
+            highs.len(),
+            scratch.as_mut_ptr(),
+            scratch.len(),
+        )
+    };
+    accepted(answer.refusal).map_err(|refusal| Unsettled { refusal, passes: answer.passes })?;
+    Ok(answer.passes)
 }

@@ -9,6 +9,8 @@ use Rattle.group.specs.declared.Levelling.{Levelling}
 use Rattle.group.specs.declared.Levelling.the-variants.{Levelled, Refused}
 use Rattle.group.specs.declared.Narrowing.{Narrowing}
 use Rattle.job.specs.declared.Reading.{Reading}
+use Rattle.works.specs.declared.Settling.{Settling}
+use Rattle.planner.specs.declared.ForeignSettled.{ForeignSettled}
 use Rattle.planner.specs.declared.ForeignRead.{ForeignRead}
 use Rattle.planner.specs.declared.ForeignLimit.{ForeignLimit}
 use Rattle.planner.specs.declared.ForeignLimits.{ForeignLimits}
@@ -53,3 +55,10 @@ foreignNarrowed (Narrowing.Refused refusal) = foreignRefusal refusal
 abbrev pub foreignRead : Reading → ForeignRead
 foreignRead (Reading.Read units groups) = record { refusal = accepted; units = units; groups = groups }
 foreignRead (Reading.Refused refusal) = record { refusal = foreignRefusal refusal; units = 0; groups = 0 }
+
+-- a settling; the passes are 0 where it is refused ahead of the first
+abbrev pub foreignSettled : Settling → ForeignSettled
+foreignSettled (Settling.Settled passes) = record { refusal = accepted; passes = passes }
+foreignSettled (Settling.NoPlan number place passes) =
+    record { refusal = record { number = number; place = place }; passes = passes }
+foreignSettled (Settling.Refused refusal) = record { refusal = foreignRefusal refusal; passes = 0 }

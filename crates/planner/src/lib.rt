@@ -5,6 +5,7 @@ use job::Reading;
 use model::Limit;
 use model::Limits;
 use model::Refusal;
+use works::Settling;
 ghost use mathlib.Core.Path.{_≡_};
 ghost use lib.ListN.{length};
 ghost use Rattle.model.specs.Levels.{levelled};
@@ -12,7 +13,8 @@ ghost use Rattle.model.specs.Plans.{narrowedLows, narrowedHighs};
 ghost use Rattle.group.specs.Levelling.{levelling, planAfter};
 ghost use Rattle.group.specs.Narrowing.{narrowing, listAfter};
 ghost use Rattle.job.specs.Reading.{readingOf, readTable, lowsAfter, highsAfter};
-ghost use Rattle.planner.specs.Foreign.{foreignRefusal, foreignLevelled, foreignNarrowed, foreignRead, limitOf, limitsOf};
+ghost use Rattle.works.specs.Calls.{settleText};
+ghost use Rattle.planner.specs.Foreign.{foreignRefusal, foreignLevelled, foreignNarrowed, foreignRead, foreignSettled, limitOf, limitsOf};
 
 // A refusal; number 0 says that there is none.
 #[repr(C)]
@@ -62,6 +64,13 @@ pub struct ForeignRead {
     pub refusal: ForeignRefusal,
     pub units: usize,
     pub groups: usize,
+}
+
+// What settling a job answers; the passes are counted where it settles and for 11 and 12.
+#[repr(C)]
+pub struct ForeignSettled {
+    pub refusal: ForeignRefusal,
+    pub passes: u64,
 }
 
 // A refusal as it crosses.
@@ -191,4 +200,47 @@ pub extern "C" fn danivomel_read(text: &[u8], lows: &mut [u64], highs: &mut [u64
 {
     let answer = job::read(text, lows, highs);
     reading_out(answer)
+}
+
+// A settling as it crosses.
+fn settling_out(answer: Settling) -> ForeignSettled
+    ensures { λ r. ⌜ r ≡ foreignSettled answer ⌝ }
+{
+    match answer {
+        Settling::Settled(passes) => ForeignSettled {
+            refusal: ForeignRefusal {
+                number: 0,
+                place: 0,
+            },
+            passes,
+        },
+        Settling::NoPlan {
+            number,
+            place,
+            passes,
+        } => ForeignSettled {
+            refusal: ForeignRefusal { number, place },
+            passes,
+        },
+        Settling::Refused(refusal) => ForeignSettled {
+            refusal: refusal_out(refusal),
+            passes: 0,
+        },
+    }
+}
+
+// Settles a job text over a table, as works::settle does.
+#[no_mangle]
+pub extern "C" fn danivomel_settle(
+    text: &[u8],
+    lows: &mut [u64],
+    highs: &mut [u64],
+    scratch: &mut [u64],
+) -> ForeignSettled
+    ensures { λ r. ⌜ r ≡ foreignSettled (settleText (now (text .entry)) (now (lows .entry)) (now (highs .entry)) (length (now (scratch .entry))) .answer) ⌝ }
+    ensures { λ _. ⌜ now (lows .exit) ≡ settleText (now (text .entry)) (now (lows .entry)) (now (highs .entry)) (length (now (scratch .entry))) .lows ⌝ }
+    ensures { λ _. ⌜ now (highs .exit) ≡ settleText (now (text .entry)) (now (lows .entry)) (now (highs .entry)) (length (now (scratch .entry))) .highs ⌝ }
+{
+    let answer = works::calls::settle(text, lows, highs, scratch);
+    settling_out(answer)
 }
