@@ -1,8 +1,8 @@
 -- The answers of reading, and what it leaves in the lists. Assumes nothing.
 use Prim.Native.Nat.{ℕ, zero, suc, _+_, _≤_, _<_}
-use mathlib.Core.Bool.{Bool, true, false, _&&_}
+use mathlib.Core.Bool.{_&&_}
 use mathlib.Core.List.{List, [], _∷_, _++_}
-use mathlib.Core.Path.{_≡_, refl, sym, ap, _∙_}
+use mathlib.Core.Path.{_≡_, refl, ap}
 use native.Mathlib.Omega.{arith}
 use borrow.Author.Tests.{le-leb, lt-leb}
 use lib.Dec.{leb}
@@ -13,7 +13,7 @@ use Rattle.model.specs.declared.Refusal.{Refusal}
 use Rattle.text.specs.Parsed.{Parsed, parsed, failed}
 use Rattle.job.specs.Form.{Line, unit, group, printLine, line}
 use Rattle.job.specs.Spelling.{printed-line}
-use Rattle.job.specs.Job.{Job, Stepped, next, stop, stepOn, verdict, judged, add, placeOf, Outcome, accepted, refused, refusal, onward, readLines, readJob}
+use Rattle.job.specs.Job.{Job, next, stop, stepOn, verdict, judged, add, placeOf, Outcome, accepted, refused, refusal, onward, readLines, readJob}
 use Rattle.job.specs.Flat.{flatten}
 use Rattle.job.specs.declared.Reading.{Reading}
 use Rattle.job.specs.declared.Reading.the-variants.{Read, Refused}

@@ -1,14 +1,13 @@
 -- Scanning a text line by line: what holds at each line, and what that says at the end. Assumes nothing.
-use Prim.Native.Nat.{ℕ, _+_, _*_, _≤_, _<_}
-use mathlib.Core.Bool.{true, false}
-use mathlib.Core.List.{List, [], _++_}
+use Prim.Native.Nat.{ℕ, _≤_, _<_}
+use mathlib.Core.List.{List}
 use mathlib.Core.Path.{_≡_, refl, sym, ap, _∙_}
 use native.Mathlib.Omega.{arith}
 use borrow.Author.Tests.{le-leb, lt-leb, eq-eqb, ne-eqb}
 use lib.ListN.{length, drop, length-drop, drop-of-length-le}
 use Rattle.model.specs.declared.Refusal.{Refusal}
 use Rattle.job.specs.Form.{line}
-use Rattle.job.specs.Job.{Job, mostBytes, noLines, memberships, next, stop, stepOn, Outcome, accepted, refused, refusal, readLines, someUnit, readJob}
+use Rattle.job.specs.Job.{Job, mostBytes, noLines, memberships, stop, stepOn, Outcome, accepted, refused, refusal, readLines, someUnit, readJob}
 use Rattle.job.specs.Flat.{flatten, length-flatten}
 use Rattle.job.specs.Steps.{lists, Holds, Answers}
 use Rattle.job.specs.declared.steps.Taken.the-variants as taken

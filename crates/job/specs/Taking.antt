@@ -1,20 +1,20 @@
 -- Taking a line: the code's tests and stores do to its lists what the line does to the job. Assumes nothing.
 use Prim.Native.Nat.{ℕ, zero, suc, _+_, _-_, _*_, _≤_, _<_}
-use mathlib.Core.Bool.{Bool, true, false}
+use mathlib.Core.Bool.{true, false}
 use mathlib.Core.List.{List, [], _∷_, _++_, map, append-assoc}
 use mathlib.Core.Path.{_≡_, refl, sym, ap, _∙_}
 use native.Mathlib.Omega.{arith}
 use lib.ListN.{length, take, drop, set, length-append, length-drop, length-map}
 use lib.Seq.{sets, sets-eq, take-at, drop-at, length-take-le}
 use Rattle.model.specs.declared.Limits.{Limits}
-use Rattle.text.specs.Parsed.{Parsed, parsed, failed, mapped, orElse}
+use Rattle.text.specs.Parsed.{parsed, failed, mapped, orElse}
 use Rattle.text.specs.Numbers.{held}
-use Rattle.job.specs.Form.{UnitLine, GroupLine, Line, unit, group, unitAs, groupAs, lineAs, line}
+use Rattle.job.specs.Form.{UnitLine, GroupLine, unit, group, unitAs, groupAs, lineAs, line}
 use Rattle.job.specs.Held.{step-held}
-use Rattle.job.specs.Job.{Job, mostUnits, mostGroups, mostMemberships, mostFlat, memberships, unitVerdict, headVerdict, membersVerdict, verdict, first, allNamed, distinct, memberOf, groupOf, add, refusal, placeOf, judged, Stepped, next, stop, stepOn}
+use Rattle.job.specs.Job.{Job, mostUnits, mostFlat, memberships, unitVerdict, headVerdict, membersVerdict, verdict, first, allNamed, distinct, memberOf, groupOf, add, refusal, placeOf, judged, next, stop, stepOn}
 use Rattle.job.specs.Flat.{limitCode, flatGroup, flatten, flatten-snoc, length-flatten, memberships-snoc, stored, put-behind}
 use Rattle.job.specs.Verdicts.{unit-good, head-good}
-use Rattle.job.specs.Steps.{Bounded, Lists, Holds}
+use Rattle.job.specs.Steps.{Lists, Holds}
 use Rattle.job.specs.declared.steps.Progress.{Progress}
 
 judged-stop : (v : ℕ) (job : Job) (s : List ℕ) (place : ℕ) → (v ≡ 0 → ⊥) → judged v job s place ≡ stop (refusal v place)

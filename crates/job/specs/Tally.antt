@@ -1,10 +1,9 @@
 -- The members of a group line as the code keeps them: how many, whether all are units, and their place in the flat list. Assumes nothing.
 use Prim.Native.Nat.{ℕ, zero, suc, _+_, _-_, _≤_, _<_}
-use mathlib.Core.Bool.{Bool, true, false, _&&_}
+use mathlib.Core.Bool.{Bool, true, _&&_}
 use mathlib.Core.List.{List, [], _∷_, map}
 use mathlib.Core.Path.{_≡_, refl, sym, ap, _∙_}
 use native.Mathlib.Omega.{arith}
-use native.Mathlib.Numerals.{add-one}
 use lib.ListN.{length, set}
 use lib.Seq.{sets}
 use Rattle.text.specs.Parsed.{Parsed, parsed, failed, andThen, mapped, orElse, mapped-like, mapped-parsed}
