@@ -107,6 +107,7 @@ pub fresh-next : (marks xs : List ℕ) (i : ℕ) → i < length xs → freshBy m
 unfolding freshBy
 fresh-next marks xs i h = rw (add-one, drop-cons xs i 0)
 
+-- no number is left
 pub fresh-end : (marks : List ℕ) → freshBy marks [] ≡ true
 unfolding freshBy
 fresh-end marks = refl

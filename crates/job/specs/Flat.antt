@@ -26,16 +26,19 @@ unfoldable pub flatten : List Group → List ℕ
 flatten [] = []
 flatten (g ∷ gs) = flatGroup g ++ flatten gs
 
+-- one group more at the end
 pub flatten-snoc : (gs : List Group) (g : Group) → flatten (gs ++ g ∷ []) ≡ flatten gs ++ flatGroup g
 unfolding flatten
 flatten-snoc [] g = rw (append-nil (g .members))
 flatten-snoc (h ∷ gs) g = rw (flatten-snoc gs g) (sym (append-assoc (flatGroup h) (flatten gs) (flatGroup g)))
 
+-- 4 numbers a group, and its members
 pub length-flatten : (gs : List Group) → length (flatten gs) ≡ length gs * 4 + memberships gs
 unfolding flatten memberships
 length-flatten [] = refl
 length-flatten (g ∷ gs) = rw (length-append (flatGroup g) (flatten gs), length-flatten gs) (omega arith)
 
+-- the memberships with one group more
 pub memberships-snoc : (gs : List Group) (g : Group) → memberships (gs ++ g ∷ []) ≡ memberships gs + length (g .members)
 unfolding memberships
 memberships-snoc [] g = omega arith

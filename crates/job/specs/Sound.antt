@@ -26,6 +26,7 @@ pub record SoundGroup (units : ℕ) (g : Group) : Type 0 where
   pub all-units : AllBelow units (g .members)
   pub all-different : distinct (g .members) ≡ true
 
+-- every group is sound
 pub data SoundGroups (units : ℕ) : List Group → Type 0 where
   none : SoundGroups units []
   also : {g : Group} {gs : List Group} → SoundGroup units g → SoundGroups units gs → SoundGroups units (g ∷ gs)

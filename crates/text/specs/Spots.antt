@@ -103,6 +103,7 @@ number-first (b ∷ s) d h =
           rw (e .0, ne-eqb b 48 p, ne-eqb d 0 (λ z. p (omega (arith, e .1))), e .1) (sym (held-digits d s) ∙ rw low)
     ]
 
+-- no digit, no number
 pub number-none : (s : List ℕ) → firstDigit s ≡ Nothing → number s ≡ failed
 unfolding firstDigit number
 number-none [] h = refl
