@@ -1,0 +1,1 @@
+// The breakpoint table of a group, and probes of pinned values on it.
