@@ -1,3 +1,4 @@
 pub mod Sums
 pub mod Spans
 pub mod Pins
+pub mod Orders

@@ -1,1 +1,2 @@
 // The breakpoint table of a group, and probes of pinned values on it.
+pub mod order;
