@@ -2,3 +2,4 @@ pub mod Sums
 pub mod Spans
 pub mod Pins
 pub mod Orders
+pub mod Rows

@@ -1,2 +1,3 @@
 // The breakpoint table of a group, and probes of pinned values on it.
 pub mod order;
+pub mod rows;
