@@ -3,3 +3,5 @@ pub mod Spans
 pub mod Pins
 pub mod Orders
 pub mod Rows
+pub mod Walks
+pub mod Tables

@@ -1,3 +1,4 @@
 // The breakpoint table of a group, and probes of pinned values on it.
 pub mod order;
 pub mod rows;
+pub mod table;

@@ -1,0 +1,66 @@
+// Building the breakpoint table of a group.
+use crate::rows::Row;
+ghost use mathlib.Core.Path.{_≡_};
+ghost use Prim.Native.Nat.{suc, _+_, _*_, _≤_};
+ghost use Rattle.model.specs.Shares.{greatestShare};
+ghost use Rattle.probe.specs.Tables.{Sound, Sums, SpanTo, Movable, Moved, fromMean, square};
+
+// A share's part of the deviation.
+pub fn from_mean(count: u64, total: u64, x: u64) -> u64
+    requires { ⌜ count ≤ 256 ⌝ }
+    requires { ⌜ x ≤ suc greatestShare ⌝ }
+    ensures { λ r. ⌜ r ≡ fromMean count total x ⌝ }
+{
+    let scaled = count * x;
+    if scaled <= total {
+        return total - scaled;
+    }
+    scaled - total
+}
+
+// A share's part of the sum of squares.
+pub fn square(x: u64) -> u64
+    requires { ⌜ x ≤ suc greatestShare ⌝ }
+    ensures { λ r. ⌜ r ≡ square x ⌝ }
+{
+    x * x
+}
+
+// A sum after some parts have moved from one value to another, and others back.
+fn moved(stored: u64, up: u64, down: u64, from: u64, to: u64) -> u64
+    requires { ⌜ Movable stored up down from to ⌝ }
+    ensures { λ r. ⌜ r + (up * from + down * to) ≡ stored + (up * to + down * from) ⌝ }
+{
+    stored + (up * to + down * from) - (up * from + down * to)
+}
+
+// A row moved to a further level, with no bound between.
+fn row_at(lows: &[u64], highs: &[u64], total: u64, row: Row, mark: u64) -> Row
+    requires { ⌜ Sound (now lows) (now highs) total ⌝ }
+    requires { ⌜ Sums (now lows) (now highs) total row ⌝ }
+    requires { ⌜ SpanTo (now lows) (now highs) row mark ⌝ }
+    requires { ⌜ mark ≤ greatestShare ⌝ }
+    ensures { λ r. ⌜ Moved (now (lows .entry)) (now (highs .entry)) total row mark r ⌝ }
+{
+    let count = lows.len() as u64;
+    Row {
+        mark,
+        total: moved(row.total, row.lows, row.highs, row.mark, mark),
+        deviation: moved(
+            row.deviation,
+            row.lows,
+            row.highs,
+            from_mean(count, total, row.mark),
+            from_mean(count, total, mark),
+        ),
+        squares: moved(
+            row.squares,
+            row.lows,
+            row.highs,
+            square(row.mark),
+            square(mark),
+        ),
+        lows: row.lows,
+        highs: row.highs,
+    }
+}
