@@ -5,3 +5,4 @@ pub mod Orders
 pub mod Rows
 pub mod Walks
 pub mod Tables
+pub mod Steps

@@ -10,9 +10,8 @@ use Rattle.model.specs.Figures.{apart}
 use Rattle.model.specs.Levels.{clamp, clamped}
 use Rattle.model.specs.Laws.Level.{clamp-at-most}
 use Rattle.probe.specs.declared.rows.Row.{Row}
-use Rattle.probe.specs.Orders.{Ordered}
 use Rattle.probe.specs.Rows.{rowAt}
-use Rattle.probe.specs.Spans.{Span, Parted}
+use Rattle.probe.specs.Spans.{Span}
 
 -- 01: a group of at most 256 units, with a total of at most 256,000,000
 pub record Sound (lows highs : List ℕ) (total : ℕ) : Type 0 where
@@ -111,16 +110,6 @@ module _ {lows highs : List ℕ} {m w a b : ℕ} (span : Span lows highs m w a b
   -- and is then the sum at w
   pub moved-sum : (r : ℕ) → r + (a * f m + b * f w) ≡ stored + (a * f w + b * f m) → r ≡ sumOf f (clamped lows highs w)
   moved-sum r e = omega (arith, span .sums f w (span .rises) (omega arith))
-
--- the bounds in rising order, and a row reached on the way up
-pub record Risen (lows highs rising-lows rising-highs : List ℕ) : Type 0 where
-  pub risen-lows : Ordered 1 (length lows) lows rising-lows
-  pub risen-highs : Ordered 1 (length highs) highs rising-highs
-
-pub record Walk (lows highs rising-lows rising-highs : List ℕ) (total : ℕ) (row : Row) : Type 0 where
-  pub sums : Sums lows highs total row
-  pub parted-lows : Parted (row .mark) (row .mark) (row .lows) rising-lows
-  pub parted-highs : Parted (row .mark) (row .mark) (row .highs) rising-highs
 
 -- a row moved to a further level
 pub record Moved (lows highs : List ℕ) (total : ℕ) (row : Row) (mark : ℕ) (after : Row) : Type 0 where

@@ -1,8 +1,11 @@
 // Building the breakpoint table of a group.
 use crate::rows::Row;
 ghost use mathlib.Core.Path.{_≡_};
-ghost use Prim.Native.Nat.{suc, _+_, _*_, _≤_};
+ghost use Prim.Native.Nat.{suc, _+_, _*_, _≤_, _<_};
 ghost use Rattle.model.specs.Shares.{greatestShare};
+ghost use lib.ListN.{length};
+ghost use Rattle.probe.specs.Walks.{First};
+ghost use Rattle.probe.specs.Steps.{Risen, Walk, Stepped};
 ghost use Rattle.probe.specs.Tables.{Sound, Sums, SpanTo, Movable, Moved, fromMean, square};
 
 // A share's part of the deviation.
@@ -63,4 +66,40 @@ fn row_at(lows: &[u64], highs: &[u64], total: u64, row: Row, mark: u64) -> Row
         lows: row.lows,
         highs: row.highs,
     }
+}
+
+// Whether the next bound on the way up, after a lows and b highs, is a low.
+fn low_first(lows: &[u64], highs: &[u64], a: usize, b: usize) -> bool
+    requires { ⌜ a ≤ length (now lows) ⌝ }
+    requires { ⌜ b ≤ length (now highs) ⌝ }
+    requires { ⌜ a + b < length (now lows) + length (now highs) ⌝ }
+    ensures { λ r. ⌜ First (now (lows .entry)) (now (highs .entry)) a b r ⌝ }
+{
+    if a == lows.len() {
+        return false;
+    }
+    if b == highs.len() {
+        return true;
+    }
+    lows[a] <= highs[b]
+}
+
+// The row for the next bound on the way up.
+fn next_row(lows: &[u64], highs: &[u64], starts: &[u64], stops: &[u64], total: u64, row: Row) -> Row
+    requires { ⌜ Sound (now lows) (now highs) total ⌝ }
+    requires { ⌜ Risen (now lows) (now highs) (now starts) (now stops) ⌝ }
+    requires { ⌜ Walk (now lows) (now highs) (now starts) (now stops) total row ⌝ }
+    requires { ⌜ row .lows + row .highs < 2 * length (now lows) ⌝ }
+    ensures { λ r. ⌜ Stepped (now (lows .entry)) (now (highs .entry)) (now (starts .entry)) (now (stops .entry)) total row r ⌝ }
+{
+    let a = row.lows as usize;
+    let b = row.highs as usize;
+    if low_first(starts, stops, a, b) {
+        let mut low = row_at(lows, highs, total, row, starts[a]);
+        low.lows += 1;
+        return low;
+    }
+    let mut high = row_at(lows, highs, total, row, stops[b]);
+    high.highs += 1;
+    high
 }
