@@ -30,6 +30,13 @@ pub record Stepped (lows highs starts stops : List ℕ) (total : ℕ) (row after
   pub walk : Walk lows highs starts stops total after
   pub counted : after .lows + after .highs ≡ suc (row .lows + row .highs)
 
+-- the row for level 0
+pub record Begun (lows highs : List ℕ) (total : ℕ) (row : Row) : Type 0 where
+  pub sums : Sums lows highs total row
+  pub at : row .mark ≡ 0
+  pub no-lows : row .lows ≡ 0
+  pub no-highs : row .highs ≡ 0
+
 -- a row with one low more passed, or one high more
 abbrev pub lowPassed : Row → Row
 lowPassed row = record {

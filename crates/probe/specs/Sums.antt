@@ -1,11 +1,13 @@
 -- Sums of any f over shares at a level: with copies left over, from level to level, and with a member pinned. Assumes nothing.
 use Prim.Native.Nat.{ℕ, zero, suc, _+_, _-_, _*_, _≤_, _<_, max}
 use mathlib.Core.List.{List, [], _∷_}
-use mathlib.Core.Path.{_≡_, refl}
+use mathlib.Core.Path.{_≡_, refl, ap}
 use native.Mathlib.Decide.{decLe}
 use native.Mathlib.Nat.{le-of-suc-le-suc, le-dest}
 use native.Mathlib.Omega.{arith}
-use lib.ListN.{length, getD, set}
+use native.Mathlib.Numerals.{add-one}
+use lib.ListN.{length, getD, set, drop, drop-of-length-le}
+use lib.Seq.{drop-cons}
 use Rattle.model.specs.Shares.{Ranges, Within, sum, sumOf}
 use Rattle.model.specs.Levels.{clamp, clamped, totalAt}
 use Rattle.model.specs.Laws.Levelled.{Between, within-sum-low}
@@ -84,3 +86,28 @@ module _ (f : ℕ → ℕ) where
   part-at-most [] i below = absurd (omega arith)
   part-at-most (x ∷ xs) zero below = omega arith
   part-at-most (x ∷ xs) (suc i) below = omega (arith, part-at-most xs i (le-of-suc-le-suc below))
+
+-- the parts of the numbers before i add up to a sum
+pub record Added (f : ℕ → ℕ) (xs : List ℕ) (i sum : ℕ) : Type 0 where
+  pub adds : sum + sumOf f (drop i xs) ≡ sumOf f xs
+
+module _ (f : ℕ → ℕ) (xs : List ℕ) where
+  pub added-none : Added f xs 0 0
+  added-none = record { adds = omega arith }
+
+  -- one number more
+  pub added-one : {i sum : ℕ} → i < length xs → Added f xs i sum → Added f xs (i + 1) (sum + f (getD xs i 0))
+  unfolding sumOf
+  added-one {i} {sum} below added =
+      record { adds = rw add-one (omega (arith, added .adds, ap (sumOf f) (drop-cons xs i 0 below))) }
+
+  -- all of them
+  pub added-all : {i sum : ℕ} → length xs ≤ i → Added f xs i sum → sum ≡ sumOf f xs
+  unfolding sumOf
+  added-all {i} {sum} past added = omega (arith, added .adds, ap (sumOf f) (drop-of-length-le xs past))
+
+-- at level 0 the shares are the lows
+pub clamped-least : {lows highs : List ℕ} → Ranges lows highs → clamped lows highs 0 ≡ lows
+unfolding clamped
+clamped-least Ranges.none = refl
+clamped-least (Ranges.also {l} {h} p q r) = let low : clamp l h 0 ≡ l = omega arith in rw (low, clamped-least r)

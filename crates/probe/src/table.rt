@@ -5,7 +5,7 @@ ghost use Prim.Native.Nat.{suc, _+_, _*_, _≤_, _<_};
 ghost use Rattle.model.specs.Shares.{greatestShare};
 ghost use lib.ListN.{length};
 ghost use Rattle.probe.specs.Walks.{First};
-ghost use Rattle.probe.specs.Steps.{Risen, Walk, Stepped};
+ghost use Rattle.probe.specs.Steps.{Risen, Walk, Stepped, Begun};
 ghost use Rattle.probe.specs.Tables.{Sound, Sums, SpanTo, Movable, Moved, fromMean, square};
 
 // A share's part of the deviation.
@@ -102,4 +102,30 @@ fn next_row(lows: &[u64], highs: &[u64], starts: &[u64], stops: &[u64], total: u
     let mut high = row_at(lows, highs, total, row, stops[b]);
     high.highs += 1;
     high
+}
+
+// The row for level 0, at which the shares are the lows.
+fn first_row(lows: &[u64], highs: &[u64], total: u64) -> Row
+    requires { ⌜ Sound (now lows) (now highs) total ⌝ }
+    ensures { λ r. ⌜ Begun (now (lows .entry)) (now (highs .entry)) total r ⌝ }
+{
+    let count = lows.len() as u64;
+    let mut copies: u64 = 0;
+    let mut deviation: u64 = 0;
+    let mut squares: u64 = 0;
+    let mut i: usize = 0;
+    while i < lows.len() {
+        copies += lows[i];
+        deviation += from_mean(count, total, lows[i]);
+        squares += square(lows[i]);
+        i += 1;
+    }
+    Row {
+        mark: 0,
+        total: copies,
+        deviation,
+        squares,
+        lows: 0,
+        highs: 0,
+    }
 }
