@@ -6,3 +6,4 @@ pub mod Rows
 pub mod Walks
 pub mod Tables
 pub mod Steps
+pub mod Fills

@@ -10,7 +10,7 @@ use lib.Seq.{getD-set-same, getD-set-other, sets, length-sets}
 use Rattle.probe.specs.declared.rows.Row.{Row}
 
 -- row k of a table
-abbrev pub rowAt : List ℕ → ℕ → Row
+unfoldable pub rowAt : List ℕ → ℕ → Row
 rowAt table k = record {
   mark = getD table (6 * k) 0;
   total = getD table (6 * k + 1) 0;
@@ -55,6 +55,7 @@ same-row a b m t d s l h = λ i. record { mark = m i; total = t i; deviation = d
 
 -- a row's numbers written from its place on
 pub written : (k : ℕ) (row : Row) (table : List ℕ) → 6 * k + 6 ≤ length table → Written k row table (sets table (6 * k) (numbers row))
+unfolding rowAt
 written k row table room =
     let first : (j : ℕ) → 6 * j + 0 ≡ 6 * j = (λ j. omega arith) in
     let after : List ℕ = sets table (6 * k) (numbers row) in

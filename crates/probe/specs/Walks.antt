@@ -20,6 +20,10 @@ pub record First (lows highs : List ℕ) (a b : ℕ) (low : Bool) : Type 0 where
 pub parted-none : (xs : List ℕ) → Parted 0 0 0 xs
 parted-none xs = record { few = omega arith; before = λ p h. absurd (omega arith); after = λ p low h. omega arith }
 
+-- where all numbers are passed, no further one comes
+pub parted-all : {m a w : ℕ} {xs : List ℕ} → Parted m m a xs → a ≡ length xs → Parted m w a xs
+parted-all parted all = record { few = parted .few; before = parted .before; after = λ p low h. absurd (omega arith) }
+
 module _ {m a : ℕ} {xs : List ℕ} (risen : RisingBy 1 (length xs) xs) (parted : Parted m m a xs) where
   -- the next number is no less than the mark
   pub next-up : a < length xs → m ≤ getD xs a 0

@@ -1,4 +1,5 @@
 // The breakpoint table of a group, and probes of pinned values on it.
+pub mod build;
 pub mod order;
 pub mod rows;
 pub mod table;

@@ -85,7 +85,14 @@ fn low_first(lows: &[u64], highs: &[u64], a: usize, b: usize) -> bool
 }
 
 // The row for the next bound on the way up.
-fn next_row(lows: &[u64], highs: &[u64], starts: &[u64], stops: &[u64], total: u64, row: Row) -> Row
+pub fn next_row(
+    lows: &[u64],
+    highs: &[u64],
+    starts: &[u64],
+    stops: &[u64],
+    total: u64,
+    row: Row,
+) -> Row
     requires { ⌜ Sound (now lows) (now highs) total ⌝ }
     requires { ⌜ Risen (now lows) (now highs) (now starts) (now stops) ⌝ }
     requires { ⌜ Walk (now lows) (now highs) (now starts) (now stops) total row ⌝ }
@@ -105,7 +112,7 @@ fn next_row(lows: &[u64], highs: &[u64], starts: &[u64], stops: &[u64], total: u
 }
 
 // The row for level 0, at which the shares are the lows.
-fn first_row(lows: &[u64], highs: &[u64], total: u64) -> Row
+pub fn first_row(lows: &[u64], highs: &[u64], total: u64) -> Row
     requires { ⌜ Sound (now lows) (now highs) total ⌝ }
     ensures { λ r. ⌜ Begun (now (lows .entry)) (now (highs .entry)) total r ⌝ }
 {
