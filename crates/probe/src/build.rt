@@ -7,6 +7,7 @@ use crate::table::next_row;
 ghost use mathlib.Core.Path.{_≡_};
 ghost use Prim.Native.Nat.{_+_, _*_, _≤_};
 ghost use lib.ListN.{length};
+ghost use Rattle.probe.specs.Orders.{Ordered};
 ghost use Rattle.probe.specs.Tables.{Sound, Table};
 ghost use Rattle.probe.specs.Steps.{Risen};
 
@@ -39,4 +40,33 @@ fn fill(lows: &[u64], highs: &[u64], starts: &[u64], stops: &[u64], total: u64, 
         k += 1;
         write_row(table, k, next);
     }
+}
+
+// Copies a list over another of the same length and sorts it.
+fn rising(from: &[u64], to: &mut [u64])
+    requires { ⌜ length (now to) ≡ length (now from) ⌝ }
+    ensures { λ _. ⌜ Ordered 1 (length (now (from .entry))) (now (from .entry)) (now (to .exit)) ⌝ }
+{
+    copy(from, to);
+    sort(to);
+}
+
+// Builds the table of a group. The two further lists, as long as the group, hold the sorted lows and highs afterwards.
+pub fn build(
+    lows: &[u64],
+    highs: &[u64],
+    starts: &mut [u64],
+    stops: &mut [u64],
+    total: u64,
+    table: &mut [u64],
+)
+    requires { ⌜ Sound (now lows) (now highs) total ⌝ }
+    requires { ⌜ length (now starts) ≡ length (now lows) ⌝ }
+    requires { ⌜ length (now stops) ≡ length (now highs) ⌝ }
+    requires { ⌜ 6 * (2 * length (now lows)) + 6 ≤ length (now table) ⌝ }
+    ensures { λ _. ⌜ Table (now (lows .entry)) (now (highs .entry)) total (now (table .exit)) ⌝ }
+{
+    rising(lows, starts);
+    rising(highs, stops);
+    fill(lows, highs, starts, stops, total, table);
 }
