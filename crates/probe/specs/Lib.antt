@@ -7,3 +7,4 @@ pub mod Walks
 pub mod Tables
 pub mod Steps
 pub mod Fills
+pub mod Probes

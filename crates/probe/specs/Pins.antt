@@ -23,6 +23,8 @@ pub record Pin (lows highs : List ℕ) (low high v : ℕ) (lows′ highs′ : Li
   pub ranges : Ranges lows′ highs′
   pub count : length lows′ ≡ length lows
   pub ordered : low ≤ high
+  pub highest : high ≤ greatestShare
+  pub value : v ≤ greatestShare
   pub sums : (f : ℕ → ℕ) (w : ℕ)
       → sumOf f (clamped lows′ highs′ w) + f (clamp low high w) ≡ sumOf f (clamped lows highs w) + f v
   pub clear : {m w a b : ℕ} → Span lows highs m w a b → (m < low → w ≤ low) × (m < high → w ≤ high)
@@ -34,6 +36,8 @@ pinned {lows} {highs} ranges i v below share = record {
   ranges = pinned-ranges ranges i below v share;
   count = length-set lows i v;
   ordered = ranges-at ranges i below .0;
+  highest = ranges-at ranges i below .1;
+  value = share;
   sums = λ f w. pinned-sum f ranges i v w below;
   clear = λ span. (span .lowsClear i below, span .highsClear i (omega (arith, ranges-length ranges)));
 }
@@ -44,6 +48,8 @@ unpinned ranges = record {
   ranges = ranges;
   count = refl;
   ordered = omega arith;
+  highest = omega arith;
+  value = omega arith;
   sums = λ f w. let at : clamp 0 0 w ≡ 0 = omega arith in rw at;
   clear = λ span. (λ past. absurd (omega arith), λ past. absurd (omega arith));
 }
@@ -85,21 +91,22 @@ pinned-span {low = low} {high = high} {m = m} {w = w} pin span f x from upTo =
 
 -- the level w with r copies left over gives the group its total; from m to w, c members move
 pub record Reached (lows highs : List ℕ) (total m c w r : ℕ) : Type 0 where
+  pub share : w ≤ greatestShare
   pub holds : totalAt lows highs w + r ≡ total
   pub fits : r ≤ totalAt lows highs (suc w) - totalAt lows highs w
   pub sums : (f : ℕ → ℕ) → sumOf f (clamped lows highs w) + c * f m ≡ sumOf f (clamped lows highs m) + c * f w
 
 -- at a mark whose T is the total, nothing is left over
-pub reached-mark : (lows highs : List ℕ) (total m : ℕ) → totalAt lows highs m ≡ total → Reached lows highs total m 0 m 0
-reached-mark lows highs total m holds = record { holds = omega arith; fits = omega arith; sums = λ f. omega arith }
+pub reached-mark : (lows highs : List ℕ) (total m : ℕ) → m ≤ greatestShare → totalAt lows highs m ≡ total → Reached lows highs total m 0 m 0
+reached-mark lows highs total m share holds = record { share = share; holds = omega arith; fits = omega arith; sums = λ f. omega arith }
 
 -- sums that move evenly from m to w, with a moving up and b moving down
-abbrev pub Even : List ℕ → List ℕ → ℕ → ℕ → ℕ → ℕ → Type 0
-Even lows highs m w a b = (f : ℕ → ℕ) (x : ℕ) → m ≤ x → x ≤ w
+abbrev pub Moving : List ℕ → List ℕ → ℕ → ℕ → ℕ → ℕ → Type 0
+Moving lows highs m w a b = (f : ℕ → ℕ) (x : ℕ) → m ≤ x → x ≤ w
     → sumOf f (clamped lows highs x) + (a * f m + b * f x) ≡ sumOf f (clamped lows highs m) + (a * f x + b * f m)
 
 module _ (lows highs : List ℕ) (total m w a b : ℕ) (rises : m ≤ w) (next : totalAt lows highs m ≤ total) (past : total < totalAt lows highs w)
-    (sums : Even lows highs m w a b) where
+    (sums : Moving lows highs m w a b) where
   -- so does T
   total-even : (x : ℕ) → m ≤ x → x ≤ w → totalAt lows highs x + (a * m + b * x) ≡ totalAt lows highs m + (a * x + b * m)
   unfolding totalAt
@@ -113,9 +120,9 @@ module _ (lows highs : List ℕ) (total m w a b : ℕ) (rises : m ≤ w) (next :
       omega (arith, total-even w rises (omega arith), ap (λ (t : ℕ). a * t) e, ap (λ (t : ℕ). b * t) e, mul-le-mul-right d less))
 
   -- between two marks, the total is reached by dividing what is left among the members that move
-  pub reached-between : (c q r : ℕ) → c + b ≡ a → totalAt lows highs m + (c * q + r) ≡ total → r < c
+  pub reached-between : (c q r : ℕ) → w ≤ greatestShare → c + b ≡ a → totalAt lows highs m + (c * q + r) ≡ total → r < c
       → Reached lows highs total m c (m + q) r
-  reached-between c q r moving left under =
+  reached-between c q r share moving left under =
       let even : (f : ℕ → ℕ) (x : ℕ) → m ≤ x → x ≤ w → sumOf f (clamped lows highs x) + c * f m ≡ sumOf f (clamped lows highs m) + c * f x =
       (λ f x from upTo. omega (arith, rw (← moving) at (sums f x from upTo))) in
       let total-at : (k : ℕ) → m + k ≤ w → totalAt lows highs (m + k) ≡ totalAt lows highs m + c * k =
@@ -127,6 +134,7 @@ module _ (lows highs : List ℕ) (total m w a b : ℕ) (rises : m ≤ w) (next :
       let suc-out : m + suc q ≡ suc (m + q) = omega arith in
       let above : totalAt lows highs (suc (m + q)) ≡ totalAt lows highs m + c * suc q = rw suc-out at (total-at (suc q) (omega arith)) in
       record {
+        share = omega arith;
         holds = omega arith;
         fits = omega arith;
         sums = λ f. even f (m + q) (omega arith) (omega arith);
