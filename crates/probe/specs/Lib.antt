@@ -8,3 +8,5 @@ pub mod Tables
 pub mod Steps
 pub mod Fills
 pub mod Probes
+pub mod Figures
+pub mod Verdicts

@@ -142,18 +142,18 @@ module _ (lows highs : List ℕ) (total m w a b : ℕ) (rises : m ≤ w) (next :
 
 module _ {lows highs : List ℕ} {total m c w r : ℕ} (ranges : Ranges lows highs) (reached : Reached lows highs total m c w r) where
   -- the shares at the level reached add up to the total
-  reached-adds : sum (topped lows highs w r) ≡ total
+  pub reached-adds : sum (topped lows highs w r) ≡ total
   reached-adds = topped-adds ranges w r (reached .fits) ∙ reached .holds
 
   -- their sums are those at the mark, moved to the level
-  reached-sum : (f : ℕ → ℕ)
+  pub reached-sum : (f : ℕ → ℕ)
       → sumOf f (topped lows highs w r) + (c * f m + r * f w) ≡ sumOf f (clamped lows highs m) + (c * f w + r * f (suc w))
   reached-sum f =
       let moved = between-sum f ranges w (topped-between ranges w r) r (topped-adds ranges w r (reached .fits)) in
       omega (arith, reached .sums f)
 
   -- they are even, so that the levelled shares have no other figures
-  reached-figure : (F : List ℕ → ℕ) → SchurConvex F → F (levelled lows highs total) ≡ F (topped lows highs w r)
+  pub reached-figure : (F : List ℕ → ℕ) → SchurConvex F → F (levelled lows highs total) ≡ F (topped lows highs w r)
   reached-figure F convex =
       let inside : Within lows highs (topped lows highs w r) = topped-within ranges w r in
       let exist : (sum lows ≤ total) × (total ≤ sum highs) = shares-exist ranges total .0 (topped lows highs w r, inside, reached-adds) in
