@@ -54,3 +54,30 @@ module _ {lows highs lows′ highs′ : List ℕ} {total low high v mark : ℕ} 
     over-few = few′;
     fits = omega (arith, moves);
   }
+
+-- the parts of such a sum
+pub record Parts (stored own value : ℕ) (reach : Reach) (from to next : ℕ) : Type 0 where
+  pub stored-small : stored ≤ 256 * greatestPart
+  pub own-small : own ≤ greatestPart
+  pub value-small : value ≤ greatestPart
+  pub moved-small : (reach .growing * from ≤ 256 * greatestPart) × (reach .growing * to ≤ 256 * greatestPart)
+  pub over-small : (reach .over * to ≤ 256 * greatestPart) × (reach .over * next ≤ 256 * greatestPart)
+  pub fits : own + (reach .growing * from + reach .over * to) ≤ stored + (value + (reach .growing * to + reach .over * next))
+
+-- they are small for every f that is
+pub parts : {f : ℕ → ℕ} {stored mark own v : ℕ} {reach : Reach} → Small f → Summable f stored mark own v reach
+    → Parts stored (f own) (f v) reach (f mark) (f (reach .level)) (f (suc (reach .level)))
+parts {f} {stored} {mark} {own} {v} {reach} small s = record {
+  stored-small = s .stored-small;
+  own-small = small own (omega (arith, s .own-share));
+  value-small = small v (omega (arith, s .value-share));
+  moved-small = (
+    mul-le-mul (s .growing-few) (small mark (omega (arith, s .mark-share))),
+    mul-le-mul (s .growing-few) (small (reach .level) (omega (arith, s .level-share))),
+  );
+  over-small = (
+    mul-le-mul (s .over-few) (small (reach .level) (omega (arith, s .level-share))),
+    mul-le-mul (s .over-few) (small (suc (reach .level)) (omega (arith, s .level-share))),
+  );
+  fits = s .fits;
+}

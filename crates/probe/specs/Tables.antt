@@ -62,8 +62,8 @@ Small f = (x : ℕ) → x ≤ suc greatestShare → f x ≤ greatestPart
 pub small-itself : Small itself
 small-itself x share = omega arith
 
-pub small-mean : {lows highs : List ℕ} {total : ℕ} → Sound lows highs total → Small (fromMean (length lows) total)
-small-mean sound x share = omega (arith, mul-le-mul (sound .few) share)
+pub small-mean : {n total : ℕ} → n ≤ 256 → total ≤ 256_000_000 → Small (fromMean n total)
+small-mean few small x share = omega (arith, mul-le-mul few share)
 
 pub small-square : Small square
 small-square x share = omega (arith, mul-le-mul share share)

@@ -63,7 +63,7 @@ from-mean-requires c κs = (omega arith, omega (arith, share (c .before .before)
 add-deviation : tie.Need-add-deviation Inv-loop μ-loop
 add-deviation c =
     let t = c .before .before .before in
-    rw (c .from-mean .ensures) (omega (arith, fits t (fromMean (length (lows t)) (start t .args .total)) (small-mean (start t .pre)) (t .before .loop .inv .2)))
+    rw (c .from-mean .ensures) (omega (arith, fits t (fromMean (length (lows t)) (start t .args .total)) (small-mean (start t .pre .few) (start t .pre .small)) (t .before .loop .inv .2)))
 
 mul-square : tie.Need-mul-square Inv-loop μ-loop
 mul-square c = search needs

@@ -30,7 +30,7 @@ from-mean-requires-2 c κs = search needs
 moved-requires-2 : tie.Need-moved-requires-2
 moved-requires-2 c κs =
     let s = c .before .before .before .before .before in
-    rw (c .from-mean2 .ensures, c .before .from-mean .ensures) (may s _ (s .pre .1 .0 .deviations) (small-mean (s .pre .0)))
+    rw (c .from-mean2 .ensures, c .before .from-mean .ensures) (may s _ (s .pre .1 .0 .deviations) (small-mean (s .pre .0 .few) (s .pre .0 .small)))
 
 square-requires : tie.Need-square-requires
 square-requires c κs = search needs
