@@ -122,3 +122,12 @@ module _ {lows highs table lows′ highs′ : List ℕ} {total low high v : ℕ}
               rw (level, growing, over) (reached-mark lows′ highs′ total (row .mark) (held .sums k (found .upTo) .share)
               (omega (arith, pinned-total k (found .upTo), found .holds)))
         ]
+
+-- those that grow and the copies left over are at most as many as the lows passed
+pub divided-few : {row : Row} {low high left : ℕ} {reach : Reach} → Divided row low high left reach → row .lows ≤ 256
+    → (reach .growing ≤ 256) × (reach .over ≤ 256)
+divided-few {left = left} divided few =
+    elim (decLt 0 left) [
+      | yes some ↦ let (steps, level, moving, divides, under) = divided .some some in (omega arith, omega arith)
+      | no none ↦ let (level, growing, over) = divided .none (omega arith) in (omega arith, omega arith)
+    ]

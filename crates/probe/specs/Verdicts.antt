@@ -109,3 +109,17 @@ module _ {lows highs lows′ highs′ : List ℕ} {total low high v : ℕ} (soun
     unfolding hasPlan
     decided limits least greatest =
         rw (le-leb (sum lows′) total (rw least-total least), le-leb total (sum highs′) (rw greatest-total greatest))
+
+-- some ranges have v in place of what a member with this low and high has
+pub record Asked (lows highs : List ℕ) (low high v : ℕ) : Type 0 where
+  pub pinned-lows : List ℕ
+  pub pinned-highs : List ℕ
+  pub pin : Pin lows highs low high v pinned-lows pinned-highs
+
+-- the answer for such ranges: whether their levelled shares are within the limits
+pub record Meets (lows highs : List ℕ) (low high v total : ℕ) (limits : Limits) (answer : Bool) : Type 0 where
+  pub is : {lows′ highs′ : List ℕ} → Pin lows highs low high v lows′ highs′ → answer ≡ meets limits (length lows′) total (levelled lows′ highs′ total)
+
+-- whether they have a plan
+pub record Decides (lows highs : List ℕ) (low high v total : ℕ) (limits : Limits) (answer : Bool) : Type 0 where
+  pub is : {lows′ highs′ : List ℕ} → Pin lows highs low high v lows′ highs′ → answer ≡ hasPlan lows′ highs′ total limits

@@ -3,5 +3,6 @@ pub mod build;
 pub mod figures;
 pub mod order;
 pub mod pins;
+pub mod probing;
 pub mod rows;
 pub mod table;
