@@ -1,14 +1,13 @@
 -- Filling the table row after row. Assumes nothing.
 use Prim.Native.Nat.{ℕ, suc, _+_, _*_, _≤_, _<_}
 use mathlib.Core.List.{List}
-use mathlib.Core.Path.{_≡_, _∙_}
+use mathlib.Core.Path.{_≡_}
 use native.Mathlib.Decide.{ℕ-discrete}
 use native.Mathlib.Omega.{arith}
-use lib.ListN.{length, getD}
-use Rattle.model.specs.Shares.{greatestShare}
+use lib.ListN.{length}
 use Rattle.probe.specs.declared.rows.Row.{Row}
 use Rattle.probe.specs.Rows.{rowAt, Written}
-use Rattle.probe.specs.Spans.{Parted, span}
+use Rattle.probe.specs.Spans.{span}
 use Rattle.probe.specs.Walks.{parted-none, parted-all}
 use Rattle.probe.specs.Tables.{Sound, Sums, SpanTo, Table}
 use Rattle.probe.specs.Steps.{Risen, Walk, Stepped, Begun}
@@ -35,10 +34,10 @@ module _ {lows highs starts stops : List ℕ} {total : ℕ} where
     spans = λ j h. absurd (omega arith);
     walk = rw (put .here) (record {
       sums = begun .sums;
-      parted-lows = rw (begun .at, begun .no-lows) (parted-none starts);
-      parted-highs = rw (begun .at, begun .no-highs) (parted-none stops);
+      partedLows = rw (begun .at, begun .noLows) (parted-none starts);
+      partedHighs = rw (begun .at, begun .noHighs) (parted-none stops);
     });
-    counted = rw (put .here) (omega (arith, begun .no-lows, begun .no-highs));
+    counted = rw (put .here) (omega (arith, begun .noLows, begun .noHighs));
   }
 
   -- one row more
@@ -70,16 +69,16 @@ module _ {lows highs starts stops : List ℕ} {total : ℕ} where
       let full : 2 * length lows ≡ k = omega (arith, filled .few) in
       let end : Row = rowAt table k in
       let all-lows : end .lows ≡ length starts =
-      omega (arith, filled .counted, filled .walk .sums, risen .starts-from .same) in
+      omega (arith, filled .counted, filled .walk .sums, risen .startsFrom .same) in
       let all-highs : end .highs ≡ length stops =
-      omega (arith, filled .counted, filled .walk .sums, risen .stops-from .same, sound .paired) in
+      omega (arith, filled .counted, filled .walk .sums, risen .stopsFrom .same, sound .paired) in
       record {
         room = filled .room;
         first = filled .first;
         sums = λ j h. filled .sums j (omega arith);
         spans = λ j h. filled .spans j (omega arith);
-        last = rw full (span (sound .ranges) (risen .starts-from .rearranged) (risen .stops-from .rearranged)
+        last = rw full (span (sound .ranges) (risen .startsFrom .rearranged) (risen .stopsFrom .rearranged)
             (omega (arith, filled .walk .sums .share))
-            (parted-all (filled .walk .parted-lows) all-lows) (parted-all (filled .walk .parted-highs) all-highs));
-        all = rw full (omega (arith, sound .paired, risen .starts-from .same, risen .stops-from .same));
+            (parted-all (filled .walk .partedLows) all-lows) (parted-all (filled .walk .partedHighs) all-highs));
+        all = rw full (omega (arith, sound .paired, risen .startsFrom .same, risen .stopsFrom .same));
       }

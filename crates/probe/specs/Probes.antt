@@ -5,14 +5,13 @@ use mathlib.Core.Path.{_≡_}
 use native.Mathlib.Decide.{decLt, ℕ-discrete}
 use native.Mathlib.Omega.{arith}
 use lib.ListN.{length}
-use Rattle.model.specs.Shares.{greatestShare, sum, sumOf}
-use Rattle.model.specs.Levels.{clamp, clamped, totalAt, growth}
+use Rattle.model.specs.Levels.{clamp, totalAt, growth}
 use Rattle.model.specs.Laws.Lists.{sum-sumOf}
 use Rattle.probe.specs.declared.rows.Row.{Row}
 use Rattle.probe.specs.declared.pins.Reach.{Reach}
 use Rattle.probe.specs.Rows.{rowAt}
 use Rattle.probe.specs.Spans.{Span}
-use Rattle.probe.specs.Tables.{Sound, Sums, Table, itself, small-itself, greatestPart, clamped-small}
+use Rattle.probe.specs.Tables.{Sound, Table, itself, small-itself, greatestPart, clamped-small}
 use Rattle.probe.specs.Pins.{Pin, Reached, pinned-span, grows, reached-mark, reached-between}
 
 -- T at a row's level of the group with v in place of a member's own

@@ -16,13 +16,13 @@ use Rattle.probe.specs.Tables.{Sound, Sums, SpanTo, Moved}
 
 -- the bounds in rising order, and a row reached on the way up
 pub record Risen (lows highs starts stops : List ℕ) : Type 0 where
-  pub starts-from : Ordered 1 (length lows) lows starts
-  pub stops-from : Ordered 1 (length highs) highs stops
+  pub startsFrom : Ordered 1 (length lows) lows starts
+  pub stopsFrom : Ordered 1 (length highs) highs stops
 
 pub record Walk (lows highs starts stops : List ℕ) (total : ℕ) (row : Row) : Type 0 where
   pub sums : Sums lows highs total row
-  pub parted-lows : Parted (row .mark) (row .mark) (row .lows) starts
-  pub parted-highs : Parted (row .mark) (row .mark) (row .highs) stops
+  pub partedLows : Parted (row .mark) (row .mark) (row .lows) starts
+  pub partedHighs : Parted (row .mark) (row .mark) (row .highs) stops
 
 -- the row for the next bound
 pub record Stepped (lows highs starts stops : List ℕ) (total : ℕ) (row after : Row) : Type 0 where
@@ -34,8 +34,8 @@ pub record Stepped (lows highs starts stops : List ℕ) (total : ℕ) (row after
 pub record Begun (lows highs : List ℕ) (total : ℕ) (row : Row) : Type 0 where
   pub sums : Sums lows highs total row
   pub at : row .mark ≡ 0
-  pub no-lows : row .lows ≡ 0
-  pub no-highs : row .highs ≡ 0
+  pub noLows : row .lows ≡ 0
+  pub noHighs : row .highs ≡ 0
 
 -- a row with one low more passed, or one high more
 abbrev pub lowPassed : Row → Row
@@ -61,17 +61,17 @@ highPassed row = record {
 module _ {lows highs starts stops : List ℕ} {total : ℕ} (sound : Sound lows highs total) (risen : Risen lows highs starts stops) where
   -- every bound is a share
   start-small : (i : ℕ) → i < length starts → getD starts i 0 ≤ greatestShare
-  start-small = rearranged-small greatestShare (risen .starts-from .rearranged) (λ i below. omega (arith, ranges-at (sound .ranges) i below))
+  start-small = rearranged-small greatestShare (risen .startsFrom .rearranged) (λ i below. omega (arith, ranges-at (sound .ranges) i below))
 
   stop-small : (i : ℕ) → i < length stops → getD stops i 0 ≤ greatestShare
-  stop-small = rearranged-small greatestShare (risen .stops-from .rearranged)
+  stop-small = rearranged-small greatestShare (risen .stopsFrom .rearranged)
       (λ i below. omega (arith, ranges-at (sound .ranges) i (omega (arith, sound .paired))))
 
   starts-rise : RisingBy 1 (length starts) starts
-  starts-rise = rw (risen .starts-from .same) (risen .starts-from .rising)
+  starts-rise = rw (risen .startsFrom .same) (risen .startsFrom .rising)
 
   stops-rise : RisingBy 1 (length stops) stops
-  stops-rise = rw (risen .stops-from .same) (risen .stops-from .rising)
+  stops-rise = rw (risen .stopsFrom .same) (risen .stopsFrom .rising)
 
   module _ {row : Row} (walk : Walk lows highs starts stops total row) where
     -- where the next bound is w, no bound lies between
@@ -80,15 +80,15 @@ module _ {lows highs starts stops : List ℕ} {total : ℕ} (sound : Sound lows 
         → (row .highs < length stops → w ≤ getD stops (row .highs) 0)
         → SpanTo lows highs row w
     span-next w up below-low below-high =
-        span (sound .ranges) (risen .starts-from .rearranged) (risen .stops-from .rearranged) up
-        (passes-none starts-rise (walk .parted-lows) below-low)
-        (passes-none stops-rise (walk .parted-highs) below-high)
+        span (sound .ranges) (risen .startsFrom .rearranged) (risen .stopsFrom .rearranged) up
+        (passes-none starts-rise (walk .partedLows) below-low)
+        (passes-none stops-rise (walk .partedHighs) below-high)
 
     module _ (more : row .lows < length starts)
         (low : row .highs < length stops → getD starts (row .lows) 0 ≤ getD stops (row .highs) 0) where
       -- where a low comes first, no bound lies before it
       pub low-span : SpanTo lows highs row (getD starts (row .lows) 0)
-      low-span = span-next _ (next-up starts-rise (walk .parted-lows) more) (λ h. le-refl _) low
+      low-span = span-next _ (next-up starts-rise (walk .partedLows) more) (λ h. le-refl _) low
 
       pub low-share : getD starts (row .lows) 0 ≤ greatestShare
       low-share = start-small (row .lows) more
@@ -104,21 +104,21 @@ module _ {lows highs starts stops : List ℕ} {total : ℕ} (sound : Sound lows 
             totals = m .sums .totals;
             deviations = m .sums .deviations;
             squares = m .sums .squares;
-            fewLows = omega (arith, m .same-lows, risen .starts-from .same);
+            fewLows = omega (arith, m .sameLows, risen .startsFrom .same);
             fewHighs = m .sums .fewHighs;
           };
-          parted-lows = rw (m .at, m .same-lows, add-one) (passed-one starts-rise (walk .parted-lows) more);
-          parted-highs = rw (m .at, m .same-highs)
-              (passed-none stops-rise (walk .parted-highs) (next-up starts-rise (walk .parted-lows) more) low);
+          partedLows = rw (m .at, m .sameLows, add-one) (passed-one starts-rise (walk .partedLows) more);
+          partedHighs = rw (m .at, m .sameHighs)
+              (passed-none stops-rise (walk .partedHighs) (next-up starts-rise (walk .partedLows) more) low);
         };
-        counted = omega (arith, m .same-lows, m .same-highs);
+        counted = omega (arith, m .sameLows, m .sameHighs);
       }
 
     module _ (more : row .highs < length stops)
         (high : row .lows < length starts → getD stops (row .highs) 0 ≤ getD starts (row .lows) 0) where
       -- where a high comes first, no bound lies before it
       pub high-span : SpanTo lows highs row (getD stops (row .highs) 0)
-      high-span = span-next _ (next-up stops-rise (walk .parted-highs) more) high (λ h. le-refl _)
+      high-span = span-next _ (next-up stops-rise (walk .partedHighs) more) high (λ h. le-refl _)
 
       pub high-share : getD stops (row .highs) 0 ≤ greatestShare
       high-share = stop-small (row .highs) more
@@ -135,11 +135,11 @@ module _ {lows highs starts stops : List ℕ} {total : ℕ} (sound : Sound lows 
             deviations = m .sums .deviations;
             squares = m .sums .squares;
             fewLows = m .sums .fewLows;
-            fewHighs = omega (arith, m .same-highs, risen .stops-from .same, sound .paired);
+            fewHighs = omega (arith, m .sameHighs, risen .stopsFrom .same, sound .paired);
           };
-          parted-lows = rw (m .at, m .same-lows)
-              (passed-none starts-rise (walk .parted-lows) (next-up stops-rise (walk .parted-highs) more) high);
-          parted-highs = rw (m .at, m .same-highs, add-one) (passed-one stops-rise (walk .parted-highs) more);
+          partedLows = rw (m .at, m .sameLows)
+              (passed-none starts-rise (walk .partedLows) (next-up stops-rise (walk .partedHighs) more) high);
+          partedHighs = rw (m .at, m .sameHighs, add-one) (passed-one stops-rise (walk .partedHighs) more);
         };
-        counted = omega (arith, m .same-lows, m .same-highs);
+        counted = omega (arith, m .sameLows, m .sameHighs);
       }

@@ -1,10 +1,10 @@
 -- The breakpoint table of a group: what its rows hold, and how one row comes of the row before. Assumes nothing.
 use Prim.Native.Nat.{ℕ, suc, _+_, _*_, _≤_, _<_}
-use mathlib.Core.List.{List, [], _∷_}
+use mathlib.Core.List.{List}
 use mathlib.Core.Path.{_≡_}
 use native.Mathlib.Nat.{mul-le-mul}
 use native.Mathlib.Omega.{arith}
-use lib.ListN.{length, getD}
+use lib.ListN.{length}
 use Rattle.model.specs.Shares.{Ranges, greatestShare, sumOf}
 use Rattle.model.specs.Figures.{apart}
 use Rattle.model.specs.Levels.{clamp, clamped}
@@ -78,32 +78,32 @@ clamped-small (Ranges.also {l} {h} p q r) small w =
 
 -- numbers whose sum may be moved: a parts go from one value to another, and b back
 pub record Movable (stored a b from to : ℕ) : Type 0 where
-  pub stored-small : stored ≤ 256 * greatestPart
-  pub up-small : a ≤ 256
-  pub down-small : b ≤ 256
-  pub from-small : from ≤ greatestPart
-  pub to-small : to ≤ greatestPart
+  pub storedSmall : stored ≤ 256 * greatestPart
+  pub upSmall : a ≤ 256
+  pub downSmall : b ≤ 256
+  pub fromSmall : from ≤ greatestPart
+  pub toSmall : to ≤ greatestPart
   pub fits : a * from + b * to ≤ stored + (a * to + b * from)
 
 -- its products are small
 pub products-small : {stored a b from to : ℕ} → Movable stored a b from to
     → (a * from ≤ 256 * greatestPart) × (a * to ≤ 256 * greatestPart) × (b * from ≤ 256 * greatestPart) × (b * to ≤ 256 * greatestPart)
 products-small m = (
-  mul-le-mul (m .up-small) (m .from-small),
-  mul-le-mul (m .up-small) (m .to-small),
-  mul-le-mul (m .down-small) (m .from-small),
-  mul-le-mul (m .down-small) (m .to-small),
+  mul-le-mul (m .upSmall) (m .fromSmall),
+  mul-le-mul (m .upSmall) (m .toSmall),
+  mul-le-mul (m .downSmall) (m .fromSmall),
+  mul-le-mul (m .downSmall) (m .toSmall),
 )
 
 module _ {lows highs : List ℕ} {m w a b : ℕ} (span : Span lows highs m w a b) (f : ℕ → ℕ) {stored : ℕ} (held : stored ≡ sumOf f (clamped lows highs m)) where
   -- a sum at m may be moved to w
   pub movable : {total : ℕ} → Sound lows highs total → a ≤ length lows → b ≤ length lows → w ≤ greatestShare → Small f → Movable stored a b (f m) (f w)
   movable sound fewLows fewHighs share small = record {
-    stored-small = omega (arith, clamped-small (sound .ranges) small m, sound .few);
-    up-small = omega (arith, sound .few);
-    down-small = omega (arith, sound .few);
-    from-small = small m (omega (arith, span .rises));
-    to-small = small w (omega arith);
+    storedSmall = omega (arith, clamped-small (sound .ranges) small m, sound .few);
+    upSmall = omega (arith, sound .few);
+    downSmall = omega (arith, sound .few);
+    fromSmall = small m (omega (arith, span .rises));
+    toSmall = small w (omega arith);
     fits = omega (arith, span .sums f w (span .rises) (omega arith));
   }
 
@@ -115,5 +115,5 @@ module _ {lows highs : List ℕ} {m w a b : ℕ} (span : Span lows highs m w a b
 pub record Moved (lows highs : List ℕ) (total : ℕ) (row : Row) (mark : ℕ) (after : Row) : Type 0 where
   pub sums : Sums lows highs total after
   pub at : after .mark ≡ mark
-  pub same-lows : after .lows ≡ row .lows
-  pub same-highs : after .highs ≡ row .highs
+  pub sameLows : after .lows ≡ row .lows
+  pub sameHighs : after .highs ≡ row .highs

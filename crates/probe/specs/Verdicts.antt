@@ -1,9 +1,8 @@
 -- What a probe answers is whether the pinned group has a plan. Assumes nothing.
-use Prim.Native.Nat.{ℕ, suc, _+_, _-_, _*_, _≤_, _<_}
+use Prim.Native.Nat.{ℕ, _-_, _*_, _≤_, _<_}
 use mathlib.Core.Bool.{Bool, true, false, _&&_}
 use mathlib.Core.List.{List}
 use mathlib.Core.Path.{_≡_, refl, sym, ap, _∙_}
-use native.Mathlib.Decide.{decLt}
 use native.Mathlib.Nat.{mul-le-mul}
 use native.Mathlib.Omega.{arith, by-contra}
 use lib.Dec.{leb}
@@ -11,8 +10,8 @@ use lib.ListN.{length}
 use borrow.Author.Tests.{le-leb, lt-leb, le-ltb}
 use Rattle.model.specs.Shares.{Ranges, Within, greatestShare, sum, sumOf}
 use Rattle.model.specs.Figures.{met, meets, deviation, spread}
-use Rattle.model.specs.Levels.{clamp, clamped, totalAt, growth, topped, levelled}
-use Rattle.model.specs.Plans.{hasShares, hasPlan}
+use Rattle.model.specs.Levels.{clamped, totalAt, growth, topped, levelled}
+use Rattle.model.specs.Plans.{hasPlan}
 use Rattle.model.specs.declared.Limits.{Limits}
 use Rattle.model.specs.Laws.Level.{totalAt-least, totalAt-greatest}
 use Rattle.model.specs.Laws.Levelled.{topped-within}
@@ -112,9 +111,9 @@ module _ {lows highs lows′ highs′ : List ℕ} {total low high v : ℕ} (soun
 
 -- some ranges have v in place of what a member with this low and high has
 pub record Asked (lows highs : List ℕ) (low high v : ℕ) : Type 0 where
-  pub pinned-lows : List ℕ
-  pub pinned-highs : List ℕ
-  pub pin : Pin lows highs low high v pinned-lows pinned-highs
+  pub pinnedLows : List ℕ
+  pub pinnedHighs : List ℕ
+  pub pin : Pin lows highs low high v pinnedLows pinnedHighs
 
 -- the answer for such ranges: whether their levelled shares are within the limits
 pub record Meets (lows highs : List ℕ) (low high v total : ℕ) (limits : Limits) (answer : Bool) : Type 0 where

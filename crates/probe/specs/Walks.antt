@@ -1,9 +1,8 @@
 -- Walking up two rising lists, one bound after another. Assumes nothing.
-use Prim.Native.Nat.{ℕ, suc, _+_, _-_, _≤_, _<_}
+use Prim.Native.Nat.{ℕ, suc, _-_, _≤_, _<_}
 use mathlib.Core.Bool.{Bool, true, false}
 use mathlib.Core.List.{List}
 use mathlib.Core.Path.{_≡_}
-use native.Mathlib.Decide.{decLt}
 use native.Mathlib.Omega.{arith}
 use lib.ListN.{length, getD}
 use Rattle.probe.specs.Orders.{RisingBy, rising}
@@ -13,8 +12,8 @@ use Rattle.probe.specs.Sums.{part-at-most}
 
 -- which of the next low and the next high comes first: a low where the two are equal, and the one that is left where the other list has ended
 pub record First (lows highs : List ℕ) (a b : ℕ) (low : Bool) : Type 0 where
-  pub is-low : low ≡ true → (a < length lows) × (b < length highs → getD lows a 0 ≤ getD highs b 0)
-  pub is-high : low ≡ false → (b < length highs) × (a < length lows → getD highs b 0 ≤ getD lows a 0)
+  pub isLow : low ≡ true → (a < length lows) × (b < length highs → getD lows a 0 ≤ getD highs b 0)
+  pub isHigh : low ≡ false → (b < length highs) × (a < length lows → getD highs b 0 ≤ getD lows a 0)
 
 -- no number is passed at 0
 pub parted-none : (xs : List ℕ) → Parted 0 0 0 xs

@@ -5,7 +5,6 @@ use Prim.Native.Nat.{ℕ, suc, _+_, _*_}
 use mathlib.Core.Path.{_≡_}
 use lib.ListN.{length-set}
 use Rattle.probe.specs.Rows.{written}
-use borrow.Author.Needs.{needs}
 use Rattle.probe.proofs.rows.write_row.Statement.{statement}
 use Rattle.probe.proofs.rows.write_row.Tie as tie
 

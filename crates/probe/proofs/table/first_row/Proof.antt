@@ -109,8 +109,8 @@ returns c =
         fewHighs = omega arith;
       };
       at = refl;
-      no-lows = refl;
-      no-highs = refl;
+      noLows = refl;
+      noHighs = refl;
     }
 
 pub first-row-spec : {M : Type 1} → statement M

@@ -9,10 +9,10 @@ use Rattle.probe.proofs.table.low_first.Statement.{statement}
 use Rattle.probe.proofs.table.low_first.Tie as tie
 
 returns : tie.Need-returns
-returns c = record { is-low = λ e. absurd (clash e refl); is-high = λ e. (omega arith, λ more. absurd (omega arith)) }
+returns c = record { isLow = λ e. absurd (clash e refl); isHigh = λ e. (omega arith, λ more. absurd (omega arith)) }
 
 returns-2 : tie.Need-returns-2
-returns-2 c = record { is-low = λ e. (omega arith, λ more. absurd (omega arith)); is-high = λ e. absurd (clash refl e) }
+returns-2 c = record { isLow = λ e. (omega arith, λ more. absurd (omega arith)); isHigh = λ e. absurd (clash refl e) }
 
 mul-result : tie.Need-mul-result
 mul-result c = search needs
@@ -28,8 +28,8 @@ shared-slice-read-result-2 c = search needs
 
 returns-3 : tie.Need-returns-3
 returns-3 c = record {
-  is-low = λ e. (omega arith, λ more. leb-true _ _ e);
-  is-high = λ e. (omega arith, λ more. le-of-lt (leb-false _ _ e));
+  isLow = λ e. (omega arith, λ more. leb-true _ _ e);
+  isHigh = λ e. (omega arith, λ more. le-of-lt (leb-false _ _ e));
 }
 
 pub low-first-spec : {M : Type 1} → statement M

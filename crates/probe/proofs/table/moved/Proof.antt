@@ -2,7 +2,6 @@
 use borrow.Author.Needs.{needs}
 use native.Mathlib.Omega.{arith}
 use Rattle.probe.specs.Tables.{products-small}
-use borrow.Author.Needs.{needs}
 use Rattle.probe.proofs.table.moved.Statement.{statement}
 use Rattle.probe.proofs.table.moved.Tie as tie
 

@@ -16,12 +16,12 @@ mul-row-at : tie.Need-mul-row-at
 mul-row-at c = search needs
 
 shared-slice-read-row-at : tie.Need-shared-slice-read-row-at
-shared-slice-read-row-at c = omega (arith, c .before .before .low-first .ensures .is-low (c .before .if1 .taken) .0)
+shared-slice-read-row-at c = omega (arith, c .before .before .low-first .ensures .isLow (c .before .if1 .taken) .0)
 
 row-at-requires : tie.Need-row-at-requires
 row-at-requires c κs =
     let s = start (c .before .before) in
-    let (more, low) = c .before .before .low-first .ensures .is-low (c .before .if1 .taken) in
+    let (more, low) = c .before .before .low-first .ensures .isLow (c .before .if1 .taken) in
     let walk = s .pre .1 .1 .0 in
     (s .pre .0, (walk .sums, (low-span (s .pre .0) (s .pre .1 .0) walk more low, low-share (s .pre .0) (s .pre .1 .0) walk more low)))
 
@@ -32,19 +32,19 @@ returns : tie.Need-returns
 returns c =
     let t = c .before .before .before in
     let s = start (t .before) in
-    let (more, low) = t .before .low-first .ensures .is-low (t .if1 .taken) in
+    let (more, low) = t .before .low-first .ensures .isLow (t .if1 .taken) in
     low-stepped (s .pre .0) (s .pre .1 .0) (s .pre .1 .1 .0) more low (c .before .row-at .ensures)
 
 mul-row-at-2 : tie.Need-mul-row-at-2
 mul-row-at-2 c = search needs
 
 shared-slice-read-row-at-2 : tie.Need-shared-slice-read-row-at-2
-shared-slice-read-row-at-2 c = omega (arith, c .before .before .low-first .ensures .is-high (c .before .if1 .left) .0)
+shared-slice-read-row-at-2 c = omega (arith, c .before .before .low-first .ensures .isHigh (c .before .if1 .left) .0)
 
 row-at-requires-2 : tie.Need-row-at-requires-2
 row-at-requires-2 c κs =
     let s = start (c .before .before) in
-    let (more, high) = c .before .before .low-first .ensures .is-high (c .before .if1 .left) in
+    let (more, high) = c .before .before .low-first .ensures .isHigh (c .before .if1 .left) in
     let walk = s .pre .1 .1 .0 in
     (s .pre .0, (walk .sums, (high-span (s .pre .0) (s .pre .1 .0) walk more high, high-share (s .pre .0) (s .pre .1 .0) walk more high)))
 
@@ -55,7 +55,7 @@ returns-2 : tie.Need-returns-2
 returns-2 c =
     let t = c .before .before .before in
     let s = start (t .before) in
-    let (more, high) = t .before .low-first .ensures .is-high (t .if1 .left) in
+    let (more, high) = t .before .low-first .ensures .isHigh (t .if1 .left) in
     high-stepped (s .pre .0) (s .pre .1 .0) (s .pre .1 .1 .0) more high (c .before .row-at2 .ensures)
 
 pub next-row-spec : {M : Type 1} → statement M

@@ -4,7 +4,7 @@ use mathlib.Core.Path.{_≡_, refl}
 use Prim.Native.Nat.{ℕ, _+_, _*_}
 use Rattle.model.specs.Shares.{sumOf}
 use Rattle.model.specs.Levels.{clamped}
-use Rattle.probe.specs.Tables.{Movable, Small, movable, moved-sum, itself, square, fromMean, small-itself, small-mean, small-square}
+use Rattle.probe.specs.Tables.{Movable, Small, movable, moved-sum, itself, square, small-itself, small-mean, small-square}
 use Rattle.probe.proofs.table.row_at.Statement.{statement}
 use Rattle.probe.proofs.table.row_at.Tie as tie
 
@@ -58,8 +58,8 @@ returns c =
         fewHighs = s .pre .1 .0 .fewHighs;
       };
       at = refl;
-      same-lows = refl;
-      same-highs = refl;
+      sameLows = refl;
+      sameHighs = refl;
     }
 
 pub row-at-spec : {M : Type 1} → statement M

@@ -2,7 +2,6 @@
 use borrow.Author.Needs.{needs}
 use native.Mathlib.Nat.{mul-le-mul}
 use native.Mathlib.Omega.{arith}
-use borrow.Author.Needs.{needs}
 use Rattle.probe.proofs.table.square.Statement.{statement}
 use Rattle.probe.proofs.table.square.Tie as tie
 
