@@ -9,7 +9,7 @@ ghost use Rattle.group.specs.Sound.{Sound, HasShares, greatestTotal};
 use model::Share;
 
 // The smaller of two numbers.
-fn smaller(a: u64, b: u64) -> u64
+pub(crate) fn smaller(a: u64, b: u64) -> u64
     ensures { λ r. ⌜ r ≡ min a b ⌝ }
 {
     if a <= b {

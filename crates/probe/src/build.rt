@@ -12,7 +12,7 @@ ghost use Rattle.probe.specs.Tables.{Sound, Table};
 ghost use Rattle.probe.specs.Steps.{Risen};
 
 // Copies a list over another of the same length.
-fn copy(from: &[u64], to: &mut [u64])
+pub fn copy(from: &[u64], to: &mut [u64])
     requires { ⌜ length (now to) ≡ length (now from) ⌝ }
     ensures { λ _. ⌜ now (to .exit) ≡ now (from .entry) ⌝ }
 {
