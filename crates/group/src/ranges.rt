@@ -60,7 +60,7 @@ fn edge(
     let mut step: u64 = 1;
     while 1 < apart(outer, inner) {
         let middle = part_way(outer, inner, step);
-        step = smaller(2 * step, Share::GREATEST);
+        step = smaller(16 * step, Share::GREATEST);
         if probe(lows, highs, table, total, limits, i, middle) {
             inner = middle;
         } else {
