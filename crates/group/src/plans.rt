@@ -1,10 +1,10 @@
 // The figures of a group's levelled shares, and whether they are within its limits.
 use crate::Figures;
-use crate::shares::clamp;
 use crate::shares::extra;
 use crate::shares::sum_of;
 use model::Deviation;
 use model::Spread;
+use probe::pins::clamp;
 ghost use mathlib.Core.Path.{_≡_};
 ghost use lib.ListN.{length};
 ghost use Rattle.model.specs.Shares.{sum};

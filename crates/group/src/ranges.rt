@@ -1,7 +1,6 @@
 // Narrowing a group's ranges: a value stays exactly if the group pinned to it has a plan.
 use crate::plans::apart;
 use crate::plans::has_shares;
-use crate::shares::clamp;
 use crate::shares::extra;
 use crate::shares::level_at;
 use crate::shares::remainder_at;
@@ -11,6 +10,7 @@ use model::Share;
 use model::Turn;
 use probe::build::build;
 use probe::build::copy;
+use probe::pins::clamp;
 use probe::probing::has_plan;
 use probe::probing::probe;
 ghost use mathlib.Core.Bool.{false};
