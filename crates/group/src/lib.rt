@@ -22,7 +22,6 @@ ghost use Rattle.model.specs.Plans.{narrowedLows, narrowedHighs};
 ghost use Rattle.group.specs.Sound.{Sound};
 ghost use Rattle.group.specs.Levelling.{levelledTo, levelling, planAfter};
 ghost use Rattle.group.specs.Narrowing.{narrowing, listAfter};
-ghost use Rattle.group.specs.Tabled.{Space};
 
 pub mod checks;
 pub mod plans;
@@ -113,57 +112,18 @@ pub fn level(lows: &[u64], highs: &[u64], total: u64, plan: &mut [u64]) -> Level
     }
 }
 
-// Narrows a group on lists, in place, with room to work in.
-fn narrow_within(
-    lows: &mut [u64],
-    highs: &mut [u64],
-    total: u64,
-    limits: Limits,
-    starts: &mut [u64],
-    stops: &mut [u64],
-    table: &mut [u64],
-) -> Narrowing
-    requires { ⌜ Space (length (now lows)) (now starts) (now stops) (now table) ⌝ }
-    ensures { λ r. ⌜ r ≡ narrowing (now (lows .entry)) (now (highs .entry)) total limits ⌝ }
-    ensures { λ r. ⌜ now (lows .exit) ≡ listAfter r (narrowedLows (now (lows .entry)) (now (highs .entry)) total limits) (now (lows .entry)) ⌝ }
-    ensures { λ r. ⌜ now (highs .exit) ≡ listAfter r (narrowedHighs (now (lows .entry)) (now (highs .entry)) total limits) (now (highs .entry)) ⌝ }
-{
-    let count = lows.len();
-    let check = check_lists(lows, highs, count, amounts_within(total, limits));
-    if let Check::Failed(refusal) = check {
-        return Narrowing::Refused(refusal);
-    }
-    let turn = narrow_core(
-        lows,
-        highs,
-        total,
-        limits,
-        &mut starts[..count],
-        &mut stops[..count],
-        table,
-    );
-    let Turn::NoPlan(number) = turn else {
-        return Narrowing::Narrowed;
-    };
-    Narrowing::Refused(Refusal { number, place: 0 })
-}
-
 // Narrows a group on lists, in place.
 pub fn narrow(lows: &mut [u64], highs: &mut [u64], total: u64, limits: Limits) -> Narrowing
     ensures { λ r. ⌜ r ≡ narrowing (now (lows .entry)) (now (highs .entry)) total limits ⌝ }
     ensures { λ r. ⌜ now (lows .exit) ≡ listAfter r (narrowedLows (now (lows .entry)) (now (highs .entry)) total limits) (now (lows .entry)) ⌝ }
     ensures { λ r. ⌜ now (highs .exit) ≡ listAfter r (narrowedHighs (now (lows .entry)) (now (highs .entry)) total limits) (now (highs .entry)) ⌝ }
 {
-    let mut starts = [0u64; 256];
-    let mut stops = [0u64; 256];
-    let mut table = [0u64; 3078];
-    narrow_within(
-        lows,
-        highs,
-        total,
-        limits,
-        &mut starts,
-        &mut stops,
-        &mut table,
-    )
+    let check = check_lists(lows, highs, lows.len(), amounts_within(total, limits));
+    if let Check::Failed(refusal) = check {
+        return Narrowing::Refused(refusal);
+    }
+    let Turn::NoPlan(number) = narrow_core(lows, highs, total, limits) else {
+        return Narrowing::Narrowed;
+    };
+    Narrowing::Refused(Refusal { number, place: 0 })
 }

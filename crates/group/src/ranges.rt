@@ -23,7 +23,7 @@ ghost use Rattle.model.specs.Plans.{taken, turnOf, narrowedLows, narrowedHighs}
 ghost use Rattle.group.specs.Sound.{Sound};
 ghost use Rattle.group.specs.Narrowing.{afterTurn};
 ghost use Rattle.group.specs.Edges.{Edge, Reach, Amid, Approach};
-ghost use Rattle.group.specs.Tabled.{Tabled, HasPlan, Room};
+ghost use Rattle.group.specs.Tabled.{Tabled, HasPlan, Room, Space};
 
 // A value between two others, at most a step and at most half the way from the first.
 fn part_way(outer: u64, inner: u64, step: u64) -> u64
@@ -124,7 +124,7 @@ fn narrow_members(
 
 // Narrows sound lists in place, or says that there is no plan and leaves them as they were. The three further lists
 // are room to work in: starts and stops as long as the group, and the table; they hold anything afterwards.
-pub fn narrow_core(
+fn narrow_with(
     lows: &mut [u64],
     highs: &mut [u64],
     total: u64,
@@ -150,4 +150,53 @@ pub fn narrow_core(
     copy(starts, lows);
     copy(stops, highs);
     Turn::Narrowed
+}
+
+// The same with arrays that have room for every group.
+fn narrow_within(
+    lows: &mut [u64],
+    highs: &mut [u64],
+    total: u64,
+    limits: Limits,
+    starts: &mut [u64],
+    stops: &mut [u64],
+    table: &mut [u64],
+) -> Turn
+    requires { ⌜ Sound (now lows) (now highs) ⌝ }
+    requires { ⌜ Space (length (now lows)) (now starts) (now stops) (now table) ⌝ }
+    ensures { λ r. ⌜ r ≡ turnOf (now (lows .entry)) (now (highs .entry)) total limits ⌝ }
+    ensures { λ r. ⌜ now (lows .exit) ≡ afterTurn r (narrowedLows (now (lows .entry)) (now (highs .entry)) total limits) (now (lows .entry)) ⌝ }
+    ensures { λ r. ⌜ now (highs .exit) ≡ afterTurn r (narrowedHighs (now (lows .entry)) (now (highs .entry)) total limits) (now (highs .entry)) ⌝ }
+{
+    let count = lows.len();
+    narrow_with(
+        lows,
+        highs,
+        total,
+        limits,
+        &mut starts[..count],
+        &mut stops[..count],
+        table,
+    )
+}
+
+// Narrows sound lists in place, or says that there is no plan and leaves them as they were.
+pub fn narrow_core(lows: &mut [u64], highs: &mut [u64], total: u64, limits: Limits) -> Turn
+    requires { ⌜ Sound (now lows) (now highs) ⌝ }
+    ensures { λ r. ⌜ r ≡ turnOf (now (lows .entry)) (now (highs .entry)) total limits ⌝ }
+    ensures { λ r. ⌜ now (lows .exit) ≡ afterTurn r (narrowedLows (now (lows .entry)) (now (highs .entry)) total limits) (now (lows .entry)) ⌝ }
+    ensures { λ r. ⌜ now (highs .exit) ≡ afterTurn r (narrowedHighs (now (lows .entry)) (now (highs .entry)) total limits) (now (highs .entry)) ⌝ }
+{
+    let mut starts = [0u64; 256];
+    let mut stops = [0u64; 256];
+    let mut table = [0u64; 3078];
+    narrow_within(
+        lows,
+        highs,
+        total,
+        limits,
+        &mut starts,
+        &mut stops,
+        &mut table,
+    )
 }
