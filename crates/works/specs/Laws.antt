@@ -13,3 +13,6 @@ pub mod Ends
 pub mod Settled
 pub mod Checked
 pub mod Accepted
+pub mod Refusals
+pub mod Called
+pub mod Repeated
