@@ -11,3 +11,4 @@ pub mod Steps
 pub mod Taking
 pub mod Reading
 pub mod Scanning
+pub mod Sound

@@ -4,9 +4,12 @@ use mathlib.Core.Bool.{Bool, true, false, _&&_}
 use mathlib.Core.List.{List, [], _∷_, _++_}
 use mathlib.Core.Path.{_≡_, refl, sym, ap, _∙_}
 use native.Mathlib.Omega.{arith}
+use borrow.Author.Tests.{le-leb, lt-leb}
 use lib.Dec.{leb}
-use lib.ListN.{length, drop, length-append}
+use lib.ListN.{length, take, drop, length-append}
+use lib.Seq.{take-at}
 use Rattle.model.specs.Shares.{pick}
+use Rattle.model.specs.declared.Refusal.{Refusal}
 use Rattle.text.specs.Parsed.{Parsed, parsed, failed}
 use Rattle.job.specs.Form.{Line, unit, group, printLine, line}
 use Rattle.job.specs.Spelling.{printed-line}
@@ -74,7 +77,7 @@ read-next (suc n) job (b ∷ s) k r p l h =
     (n, omega arith, d, rw h)
 
 -- the next line is refused
-pub read-stop : (n : ℕ) (job : Job) (s : List ℕ) (r : _) → 0 < length s → length s ≤ n → stepOn job (line s) ≡ stop r → readLines n job s ≡ refused r
+pub read-stop : (n : ℕ) (job : Job) (s : List ℕ) (r : Refusal) → 0 < length s → length s ≤ n → stepOn job (line s) ≡ stop r → readLines n job s ≡ refused r
 unfolding readLines onward
 read-stop zero job s r p l h = absurd (omega arith)
 read-stop (suc n) job [] r p l h = absurd (omega arith)
@@ -85,3 +88,48 @@ pub read-end : (n : ℕ) (job : Job) → readLines n job [] ≡ accepted job
 unfolding readLines
 read-end zero job = refl
 read-end (suc n) job = refl
+
+-- what reading a text into a table answers, and what it leaves there
+pub record Filled (text lows₀ highs₀ lows highs : List ℕ) (r : Reading) : Type 0 where
+  pub answer : r ≡ readingOf (readTable text (length lows₀) (length highs₀))
+  pub lows-are : lows ≡ lowsAfter (readTable text (length lows₀) (length highs₀)) lows₀
+  pub highs-are : highs ≡ highsAfter (readTable text (length lows₀) (length highs₀)) highs₀
+
+-- a text refused leaves the table
+pub filled-refused : (text lows highs : List ℕ) (r : Refusal) → readTable text (length lows) (length highs) ≡ refused r → Filled text lows highs lows highs (Refused r)
+filled-refused text lows highs r e = record { answer = rw e; lows-are = rw e; highs-are = rw e }
+
+-- a text accepted fills it from the front of the lists that hold the job
+pub filled-accepted : (text lows₀ highs₀ lows highs least greatest rest past : List ℕ) (job : Job) (units groups : ℕ) → readTable text (length lows₀) (length highs₀) ≡ accepted job → length (job .lows) ≡ units → length (job .highs) ≡ units → length (job .groups) ≡ groups → least ≡ job .lows ++ rest → greatest ≡ job .highs ++ past → lows ≡ take units least ++ drop units lows₀ → highs ≡ take units greatest ++ drop units highs₀ → Filled text lows₀ highs₀ lows highs (Read units groups)
+filled-accepted text lows₀ highs₀ lows highs least greatest rest past job units groups e u v g l m f h =
+    record {
+      answer = rw (e, u, g);
+      lows-are = rw (e, f, l, u, take-at (job .lows) rest units u);
+      highs-are = rw (e, h, m, u, take-at (job .highs) past units v);
+    }
+
+-- the outcome behind an answer
+pub accepted-by : (o : Outcome) (units groups : ℕ) → Read units groups ≡ readingOf o → (job : Job) × (o ≡ accepted job) × (length (job .lows) ≡ units) × (length (job .groups) ≡ groups)
+accepted-by (accepted job) units groups h = (job, refl, cc, cc)
+accepted-by (refused r) units groups h = absurd (let z : _≡_ {A = ℕ} 0 1 = cc in omega arith)
+
+pub refused-by : (o : Outcome) (r : Refusal) → Refused r ≡ readingOf o → o ≡ refused r
+refused-by (accepted job) r h = absurd (let z : _≡_ {A = ℕ} 0 1 = cc in omega arith)
+refused-by (refused q) r h = cc
+
+module _ (text : List ℕ) (a b : ℕ) where
+  pub table-refused : (r : Refusal) → readJob text ≡ refused r → readTable text a b ≡ refused r
+  unfolding readTable fitTable
+  table-refused r e = rw e
+
+  pub table-short : (job : Job) → readJob text ≡ accepted job → a < length (job .lows) → readTable text a b ≡ refused (refusal 1 0)
+  unfolding readTable fitTable
+  table-short job e h = rw (e, lt-leb (length (job .lows)) a h)
+
+  pub table-fits : (job : Job) → readJob text ≡ accepted job → length (job .lows) ≤ a → length (job .lows) ≤ b → readTable text a b ≡ accepted job
+  unfolding readTable fitTable
+  table-fits job e h k = rw (e, le-leb (length (job .lows)) a h, le-leb (length (job .lows)) b k)
+
+  pub table-short-highs : (job : Job) → readJob text ≡ accepted job → length (job .lows) ≤ a → b < length (job .lows) → readTable text a b ≡ refused (refusal 1 0)
+  unfolding readTable fitTable
+  table-short-highs job e h k = rw (e, le-leb (length (job .lows)) a h, lt-leb (length (job .lows)) b k)

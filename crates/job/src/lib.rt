@@ -4,7 +4,7 @@ ghost use Prim.Native.Nat.{_≤_};
 ghost use mathlib.Core.List.{_++_};
 ghost use lib.ListN.{length, take, drop};
 ghost use Rattle.job.specs.Job.{mostUnits, mostFlat};
-ghost use Rattle.job.specs.Reading.{readingOf, readTable, lowsAfter, highsAfter, Scanned};
+ghost use Rattle.job.specs.Reading.{Scanned, Filled};
 use model::Refusal;
 use steps::Progress;
 use steps::Taken;
@@ -64,4 +64,53 @@ pub fn scan(text: &[u8], lows: &mut [u64], highs: &mut [u64], flat: &mut [u64]) 
         units,
         groups: progress.groups,
     }
+}
+
+// Copies the first numbers of a list to the front of another.
+fn copy_front(from: &[u64], to: &mut [u64], count: usize)
+    requires { ⌜ (count ≤ length (now from)) × (count ≤ length (now to)) ⌝ }
+    ensures { λ _. ⌜ now (to .exit) ≡ take count (now (from .entry)) ++ drop count (now (to .entry)) ⌝ }
+{
+    let mut i = 0;
+    while i < count {
+        to[i] = from[i];
+        i += 1;
+    }
+}
+
+// Reads a text into a table, by way of lists that hold every job.
+fn read_by(
+    text: &[u8],
+    lows: &mut [u64],
+    highs: &mut [u64],
+    least: &mut [u64],
+    greatest: &mut [u64],
+    flat: &mut [u64],
+) -> Reading
+    requires { ⌜ (mostUnits ≤ length (now least)) × (mostUnits ≤ length (now greatest)) × (mostFlat ≤ length (now flat)) ⌝ }
+    ensures { λ r. ⌜ Filled (now (text .entry)) (now (lows .entry)) (now (highs .entry)) (now (lows .exit)) (now (highs .exit)) r ⌝ }
+{
+    let reading = scan(text, least, greatest, flat);
+    let Reading::Read { units, groups } = reading else {
+        return reading;
+    };
+    if lows.len() < units {
+        return refused(1);
+    }
+    if highs.len() < units {
+        return refused(1);
+    }
+    copy_front(least, lows, units);
+    copy_front(greatest, highs, units);
+    Reading::Read { units, groups }
+}
+
+// Reads a job text: fills the table from its unit lines, and answers the counts of units and groups, or a refusal.
+pub fn read(text: &[u8], lows: &mut [u64], highs: &mut [u64]) -> Reading
+    ensures { λ r. ⌜ Filled (now (text .entry)) (now (lows .entry)) (now (highs .entry)) (now (lows .exit)) (now (highs .exit)) r ⌝ }
+{
+    let mut least = [0u64; 256];
+    let mut greatest = [0u64; 256];
+    let mut flat = [0u64; 4352];
+    read_by(text, lows, highs, &mut least, &mut greatest, &mut flat)
 }

@@ -11,3 +11,4 @@ pub mod Passes
 pub mod Running
 pub mod Ends
 pub mod Settled
+pub mod Checked

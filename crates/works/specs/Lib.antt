@@ -2,6 +2,7 @@ pub mod Tables
 pub mod Flat
 pub mod Settling
 pub mod Answers
+pub mod Calls
 pub mod Consistency
 pub mod Ready
 pub mod Known

@@ -1,6 +1,6 @@
 -- What the functions of settling ask of their lists. Assumes nothing.
 use Prim.Native.Nat.{ℕ, _≤_}
-use mathlib.Core.List.{List}
+use mathlib.Core.List.{List, List·Memᴰ}
 use mathlib.Core.Path.{_≡_}
 use lib.ListN.{length}
 use Rattle.group.specs.Sound.{greatestCount}
@@ -35,3 +35,9 @@ pub record Opening (flat : List ℕ) (count : ℕ) (table : Table) : Type 0 wher
   pub holds : Holds count flat
   pub few : units table ≤ greatestCount
   pub sound : Sound (groupsIn count flat) table
+
+-- groups read for a job of so many units: the flat list holds them whole, and each is sound
+pub record Prepared (flat : List ℕ) (count unitCount : ℕ) : Type 0 where
+  pub holds : Holds count flat
+  pub few : unitCount ≤ greatestCount
+  pub each : (group : Group) → List·Memᴰ group (groupsIn count flat) → SoundGroup unitCount group

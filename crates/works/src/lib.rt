@@ -1,6 +1,7 @@
 // Settling: many groups over shared units.
 use model::Refusal;
 
+pub mod calls;
 pub mod members;
 pub mod passes;
 pub mod tables;

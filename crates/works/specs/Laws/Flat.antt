@@ -3,18 +3,20 @@ use Prim.Native.Nat.{ℕ, zero, suc, _-_}
 use mathlib.Core.List.{List, [], _∷_, _++_, append-assoc}
 use mathlib.Core.Logic.{_≢_}
 use mathlib.Core.Path.{_≡_, refl, ap}
+use native.Mathlib.Numerals.{add-one}
 use native.Mathlib.Omega.{arith}
 use lib.ListN.{length, length-append}
 use lib.Seq.{take-append-seam, drop-append-seam, drop-drop}
-use Rattle.model.specs.Groups.{Group, codeOf, flatten}
+use Rattle.job.specs.Flat.{limitCode, flatten}
+use Rattle.model.specs.Groups.{Group}
 use Rattle.model.specs.declared.Limit.{Limit}
 use Rattle.model.specs.declared.Limit.the-variants.{Any, AtMost}
 use Rattle.works.specs.Flat.{limitOf, groupAt, afterFirst, groupsIn, Holds}
 
 -- a limit's number stands for the limit
-limit-code : (limit : Limit) → limitOf (codeOf limit) ≡ limit
+limit-code : (limit : Limit) → limitOf (limitCode limit) ≡ limit
 limit-code Any = refl
-limit-code (AtMost most) = refl
+limit-code (AtMost most) = rw add-one
 
 -- a number but 0 stands for a limit one lower
 pub limit-above : (code : ℕ) → code ≢ 0 → AtMost (code - 1) ≡ limitOf code

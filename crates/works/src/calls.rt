@@ -1,0 +1,66 @@
+// Settling a job text over a table.
+use crate::Settling;
+use crate::passes::settle_core;
+use group::Check;
+use group::checks::check_lists;
+use model::Refusal;
+ghost use mathlib.Core.Path.{_≡_};
+ghost use Prim.Native.Nat.{_≤_};
+ghost use lib.ListN.{length};
+ghost use Rattle.group.specs.Sound.{greatestCount};
+ghost use Rattle.works.specs.Calls.{settlement, hasRoom, checkTable, settleJob};
+ghost use Rattle.works.specs.Flat.{groupsIn};
+ghost use Rattle.works.specs.Ready.{Prepared};
+
+// Whether lists of these lengths are long enough for the units.
+fn has_room(units: usize, lows: usize, highs: usize, scratch: usize) -> bool
+    requires { ⌜ units ≤ greatestCount ⌝ }
+    ensures { λ r. ⌜ r ≡ hasRoom units lows highs scratch ⌝ }
+{
+    if lows < units {
+        return false;
+    }
+    if highs < units {
+        return false;
+    }
+    8 * units <= scratch
+}
+
+// The first refusal ahead of settling that the table and the scratch cause.
+fn check_table(units: usize, lows: &[u64], highs: &[u64], scratch: usize) -> Check
+    requires { ⌜ units ≤ greatestCount ⌝ }
+    ensures { λ r. ⌜ r ≡ checkTable units (now (lows .entry)) (now (highs .entry)) scratch ⌝ }
+{
+    if !has_room(units, lows.len(), highs.len(), scratch) {
+        return Check::Failed(Refusal {
+            number: 1,
+            place: 0,
+        });
+    }
+    check_lists(&lows[..units], &highs[..units], units, true)
+}
+
+// Settles the groups of a flat list over the first units of a table.
+fn settle_job(
+    flat: &[u64],
+    groups: u64,
+    units: usize,
+    lows: &mut [u64],
+    highs: &mut [u64],
+    scratch: &mut [u64],
+) -> Settling
+    requires { ⌜ Prepared (now flat) groups units ⌝ }
+    ensures { λ r. ⌜ settlement r (now (lows .exit)) (now (highs .exit)) ≡ settleJob (groupsIn groups (now (flat .entry))) units (now (lows .entry)) (now (highs .entry)) (length (now (scratch .entry))) ⌝ }
+{
+    let check = check_table(units, lows, highs, scratch.len());
+    match check {
+        Check::Failed(refusal) => Settling::Refused(refusal),
+        Check::Passed => settle_core(
+            flat,
+            groups,
+            &mut lows[..units],
+            &mut highs[..units],
+            scratch,
+        ),
+    }
+}
