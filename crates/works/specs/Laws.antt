@@ -12,3 +12,7 @@ pub mod Running
 pub mod Ends
 pub mod Settled
 pub mod Checked
+pub mod Accepted
+pub mod Refusals
+pub mod Called
+pub mod Repeated

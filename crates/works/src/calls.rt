@@ -3,12 +3,15 @@ use crate::Settling;
 use crate::passes::settle_core;
 use group::Check;
 use group::checks::check_lists;
+use job::Reading;
+use job::scan;
 use model::Refusal;
 ghost use mathlib.Core.Path.{_≡_};
 ghost use Prim.Native.Nat.{_≤_};
 ghost use lib.ListN.{length};
 ghost use Rattle.group.specs.Sound.{greatestCount};
-ghost use Rattle.works.specs.Calls.{settlement, hasRoom, checkTable, settleJob};
+ghost use Rattle.job.specs.Job.{mostUnits, mostFlat};
+ghost use Rattle.works.specs.Calls.{settlement, hasRoom, checkTable, settleJob, settleText};
 ghost use Rattle.works.specs.Flat.{groupsIn};
 ghost use Rattle.works.specs.Ready.{Prepared};
 
@@ -63,4 +66,49 @@ fn settle_job(
             scratch,
         ),
     }
+}
+
+// Settles a job text by way of lists that hold every job.
+fn settle_by(
+    text: &[u8],
+    lows: &mut [u64],
+    highs: &mut [u64],
+    scratch: &mut [u64],
+    found_lows: &mut [u64],
+    found_highs: &mut [u64],
+    flat: &mut [u64],
+) -> Settling
+    requires { ⌜ (mostUnits ≤ length (now «found_lows»)) × (mostUnits ≤ length (now «found_highs»)) × (mostFlat ≤ length (now flat)) ⌝ }
+    ensures { λ r. ⌜ settlement r (now (lows .exit)) (now (highs .exit)) ≡ settleText (now (text .entry)) (now (lows .entry)) (now (highs .entry)) (length (now (scratch .entry))) ⌝ }
+{
+    let reading = scan(text, found_lows, found_highs, flat);
+    match reading {
+        Reading::Read { units, groups } => settle_job(
+            flat,
+            groups as u64,
+            units,
+            lows,
+            highs,
+            scratch,
+        ),
+        Reading::Refused(refusal) => Settling::Refused(refusal),
+    }
+}
+
+// Settles a job text over a table: takes the groups from the text, and opens with the ranges that the table holds.
+pub fn settle(text: &[u8], lows: &mut [u64], highs: &mut [u64], scratch: &mut [u64]) -> Settling
+    ensures { λ r. ⌜ settlement r (now (lows .exit)) (now (highs .exit)) ≡ settleText (now (text .entry)) (now (lows .entry)) (now (highs .entry)) (length (now (scratch .entry))) ⌝ }
+{
+    let mut found_lows = [0u64; 256];
+    let mut found_highs = [0u64; 256];
+    let mut flat = [0u64; 4352];
+    settle_by(
+        text,
+        lows,
+        highs,
+        scratch,
+        &mut found_lows,
+        &mut found_highs,
+        &mut flat,
+    )
 }

@@ -1,0 +1,81 @@
+-- Calls on a text repeated: over the settled table, and with the groups in another order. Assumes nothing.
+use Prim.Native.Nat.{ℕ}
+use mathlib.Core.List.{List, List·Memᴰ}
+use mathlib.Core.Logic.{_↔_}
+use mathlib.Core.Option.{none, some}
+use mathlib.Core.Path.{_≡_, refl, sym, ap, _∙_}
+use native.Mathlib.Omega.{arith}
+use lib.ListN.{length, take, drop, length-append, length-drop, take-append-drop}
+use Rattle.job.specs.Sound.{accepted-sound}
+use Rattle.model.specs.Groups.{Group}
+use Rattle.works.specs.Calls.{Settlement, settlement, settleText}
+use Rattle.works.specs.Settling.{Outcome, settledTable, settle}
+use Rattle.works.specs.Tables.{Table}
+use Rattle.works.specs.declared.Settling.the-variants.{Settled}
+use Rattle.works.specs.Laws.Called.{Cleared, Ends, groups, count, opening, called, after, opening-sound, called-is, first-count, second-count, ends, called-settled, called-consistent, called-lengths, says, WithoutPlan, settled-not}
+use Rattle.works.specs.Laws.Checked.{Roomy, passed-room, ranges-pass}
+use Rattle.works.specs.Laws.Settled.{settled-again, any-order}
+
+-- over the settled table
+module _ {text lows highs : List ℕ} {scratch : ℕ} (cleared : Cleared text lows highs scratch) {passes : ℕ}
+    (answers : called cleared .answer ≡ Settled passes) where
+  -- the checks let the settled table through
+  abbrev again : Cleared text (called cleared .lows) (called cleared .highs) scratch
+  again = record {
+    found = cleared .found;
+    reads = cleared .reads;
+    passes = ranges-pass (count cleared) (called cleared .lows) (called cleared .highs) scratch
+        (accepted-sound text (cleared .found) (cleared .reads) .some-unit)
+        (accepted-sound text (cleared .found) (cleared .reads) .built .few-units)
+        (let room = passed-room (count cleared) lows highs scratch (cleared .passes) in
+        record {
+          forLows = omega (arith, called-lengths cleared, room .forLows);
+          forHighs = omega (arith, called-lengths cleared, room .forHighs);
+          forScratch = room .forScratch;
+        })
+        (called-consistent cleared answers .valid);
+  }
+
+  -- settling a settled table takes one pass and changes nothing
+  pub called-again : settleText text (called cleared .lows) (called cleared .highs) scratch ≡ settlement (Settled 1) (called cleared .lows) (called cleared .highs)
+  called-again =
+      called-is again
+      ∙ rw (
+        settled-again (opening-sound cleared) (called-settled cleared answers),
+        take-append-drop (count cleared) (called cleared .lows),
+        take-append-drop (count cleared) (called cleared .highs),
+      )
+
+-- two jobs with as many units and with the same groups, over one table
+module _ {text other lows highs : List ℕ} {scratch room : ℕ} (first : Cleared text lows highs scratch) (second : Cleared other lows highs room)
+    (same-units : count first ≡ count second)
+    (same-groups : (group : Group) → List·Memᴰ group (groups first) ↔ List·Memᴰ group (groups second)) where
+  same-table : settledTable (settle (groups first) (opening first)) ≡ settledTable (settle (groups second) (opening second))
+  same-table = any-order (opening-sound first) same-groups ∙ rw same-units
+
+  -- any two orders of the groups give the same settled table, or both are refused for want of a plan
+  pub called-any-order : (called first .lows ≡ called second .lows) × (called first .highs ≡ called second .highs) × (WithoutPlan first ↔ WithoutPlan second)
+  called-any-order = agree (ends first) (ends second)
+    where
+      agree : Ends first → Ends second
+          → (called first .lows ≡ called second .lows) × (called first .highs ≡ called second .highs) × (WithoutPlan first ↔ WithoutPlan second)
+      agree (Ends.settled p a s) (Ends.settled q b t) =
+          let tables : some (after first) ≡ some (after second) = rw (a, b) at same-table in
+          let same : after first ≡ after second = cc in (
+            ap (λ (x : Settlement). x .lows) s
+                ∙ (rw (ap (λ (x : Table). x .lows) same, same-units))
+                ∙ sym (ap (λ (x : Settlement). x .lows) t),
+            ap (λ (x : Settlement). x .highs) s
+                ∙ (rw (ap (λ (x : Table). x .highs) same, same-units))
+                ∙ sym (ap (λ (x : Settlement). x .highs) t),
+            (λ without. absurd (settled-not first (says s) without), λ without. absurd (settled-not second (says t) without)),
+          )
+      agree (Ends.settled p a s) (Ends.refused n k q b t) =
+          absurd (let differ : some (after first) ≡ none = rw (a, b) at same-table in let z : _≡_ {A = ℕ} 0 1 = cc in omega arith)
+      agree (Ends.refused n k p a s) (Ends.settled q b t) =
+          absurd (let differ : none ≡ some (after second) = rw (a, b) at same-table in let z : _≡_ {A = ℕ} 0 1 = cc in omega arith)
+      agree (Ends.refused m j p a s) (Ends.refused n k q b t) = (
+        ap (λ (x : Settlement). x .lows) s ∙ sym (ap (λ (x : Settlement). x .lows) t),
+        ap (λ (x : Settlement). x .highs) s ∙ sym (ap (λ (x : Settlement). x .highs) t),
+        (λ without. (n, k, q, says t), λ without. (m, j, p, says s)),
+      )
