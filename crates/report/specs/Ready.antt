@@ -43,3 +43,8 @@ pub record Workspace (lows highs plan : List ℕ) : Type 0 where
   pub forLows : greatestCount ≤ length lows
   pub forHighs : greatestCount ≤ length highs
   pub forPlan : greatestCount ≤ length plan
+
+-- the groups of a flat list are within the limits of 01
+pub record WithinLimits (flat : List ℕ) (count : ℕ) : Type 0 where
+  pub few-groups : count ≤ mostGroups
+  pub few-memberships : memberships (groupsIn count flat) ≤ mostMemberships
