@@ -24,12 +24,14 @@ levelledLine number lows highs total =
     (record { 0 = spread (length lows) total shares })
     shares
 
--- the group lines, in order, the first with the given number; 01: "levelled shares within the settled table"
+-- the line of a group in a table; 01: "levelled shares within the settled table"
+abbrev pub lineOf : ℕ → Table → Group → List ℕ
+lineOf number table group = levelledLine number (lowsOf table group) (highsOf table group) (group .total)
+
+-- the group lines, in order, the first with the given number
 unfoldable pub groupLines : ℕ → Table → List Group → List (List ℕ)
 groupLines number table [] = []
-groupLines number table (group ∷ groups) =
-    levelledLine number (lowsOf table group) (highsOf table group) (group .total)
-    ∷ groupLines (suc number) table groups
+groupLines number table (group ∷ groups) = lineOf number table group ∷ groupLines (suc number) table groups
 
 -- the report of a settled table and the passes
 unfoldable pub reportOf : List Group → Table → ℕ → List ℕ

@@ -44,7 +44,7 @@ fn check_table(units: usize, lows: &[u64], highs: &[u64], scratch: usize) -> Che
 }
 
 // Settles the groups of a flat list over the first units of a table.
-fn settle_job(
+pub fn settle_job(
     flat: &[u64],
     groups: u64,
     units: usize,
