@@ -132,6 +132,24 @@ danivomel_settled danivomel_settle(
     uint64_t *highs, size_t highs_count,
     uint64_t *scratch, size_t scratch_count);
 
+/* What reporting answers: the report's length, or a refusal, with the passes for 11 and 12. */
+typedef struct {
+    danivomel_refusal refusal;
+    uint64_t passes;
+    size_t length;
+} danivomel_reported;
+
+/*
+ * Settles as danivomel_settle does and writes the report to the start of the buffer, which has at least 65,536 bytes.
+ * Refuses 1 for a shorter buffer first, then as settling; the buffer is then as it was.
+ */
+danivomel_reported danivomel_report(
+    const uint8_t *text, size_t text_count,
+    uint64_t *lows, size_t lows_count,
+    uint64_t *highs, size_t highs_count,
+    uint64_t *scratch, size_t scratch_count,
+    uint8_t *buffer, size_t buffer_count);
+
 #ifdef __cplusplus
 }
 #endif

@@ -61,4 +61,10 @@ fn proved_planner(checks: &mut Checks) {
         topics::tables::run(checks, who, planner::settle);
         topics::calls::run_settle(checks, who, planner::settle);
     }
+    #[cfg(feature = "report")]
+    {
+        topics::report::run(checks, who, planner::report);
+        topics::report::compare(checks, who, planner::report);
+        topics::calls::run_report(checks, who, planner::report);
+    }
 }

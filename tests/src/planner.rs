@@ -52,6 +52,15 @@ struct ForeignSettled {
     passes: u64,
 }
 
+/// What reporting answers across the border.
+#[cfg(feature = "report")]
+#[repr(C)]
+struct ForeignReport {
+    refusal: Refusal,
+    passes: u64,
+    length: usize,
+}
+
 extern "C" {
     fn danivomel_level(
         lows: *const u64,
@@ -94,6 +103,20 @@ extern "C" {
         scratch: *mut u64,
         scratch_count: usize,
     ) -> ForeignSettled;
+
+    #[cfg(feature = "report")]
+    fn danivomel_report(
+        text: *const u8,
+        text_count: usize,
+        lows: *mut u64,
+        lows_count: usize,
+        highs: *mut u64,
+        highs_count: usize,
+        scratch: *mut u64,
+        scratch_count: usize,
+        buffer: *mut u8,
+        buffer_count: usize,
+    ) -> ForeignReport;
 }
 
 /// A refusal as an error, and number 0 as none.
@@ -205,4 +228,34 @@ pub fn settle(text: &[u8], lows: &mut [u64], highs: &mut [u64], scratch: &mut [u
     };
     accepted(answer.refusal).map_err(|refusal| Unsettled { refusal, passes: answer.passes })?;
     Ok(answer.passes)
+}
+
+/// Settles as [`settle`] does and writes the report to the start of the buffer; answers its length.
+///
+/// Refuses 1 for a buffer under 65,536 bytes first, then as settling.
+#[cfg(feature = "report")]
+pub fn report(
+    text: &[u8],
+    lows: &mut [u64],
+    highs: &mut [u64],
+    scratch: &mut [u64],
+    buffer: &mut [u8],
+) -> Result<u64, Unsettled> {
+    // SAFETY: each pointer and count is a slice's, and the slices do not overlap, since four are borrowed mutably.
+    let answer = unsafe {
+        danivomel_report(
+            text.as_ptr(),
+            text.len(),
+            lows.as_mut_ptr(),
+            lows.len(),
+            highs.as_mut_ptr(),
+            highs.len(),
+            scratch.as_mut_ptr(),
+            scratch.len(),
+            buffer.as_mut_ptr(),
+            buffer.len(),
+        )
+    };
+    accepted(answer.refusal).map_err(|refusal| Unsettled { refusal, passes: answer.passes })?;
+    Ok(answer.length as u64)
 }

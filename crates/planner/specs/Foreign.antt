@@ -9,7 +9,9 @@ use Rattle.group.specs.declared.Levelling.{Levelling}
 use Rattle.group.specs.declared.Levelling.the-variants.{Levelled, Refused}
 use Rattle.group.specs.declared.Narrowing.{Narrowing}
 use Rattle.job.specs.declared.Reading.{Reading}
+use Rattle.report.specs.declared.Reporting.{Reporting}
 use Rattle.works.specs.declared.Settling.{Settling}
+use Rattle.planner.specs.declared.ForeignReport.{ForeignReport}
 use Rattle.planner.specs.declared.ForeignSettled.{ForeignSettled}
 use Rattle.planner.specs.declared.ForeignRead.{ForeignRead}
 use Rattle.planner.specs.declared.ForeignLimit.{ForeignLimit}
@@ -62,3 +64,10 @@ foreignSettled (Settling.Settled passes) = record { refusal = accepted; passes =
 foreignSettled (Settling.NoPlan number place passes) =
     record { refusal = record { number = number; place = place }; passes = passes }
 foreignSettled (Settling.Refused refusal) = record { refusal = foreignRefusal refusal; passes = 0 }
+
+-- a report's answer
+abbrev pub foreignReport : Reporting → ForeignReport
+foreignReport (Reporting.Written length) = record { refusal = accepted; passes = 0; length = length }
+foreignReport (Reporting.NoPlan number place passes) =
+    record { refusal = record { number = number; place = place }; passes = passes; length = 0 }
+foreignReport (Reporting.Refused refusal) = record { refusal = foreignRefusal refusal; passes = 0; length = 0 }

@@ -5,6 +5,7 @@ use job::Reading;
 use model::Limit;
 use model::Limits;
 use model::Refusal;
+use report::Reporting;
 use works::Settling;
 ghost use mathlib.Core.Path.{_≡_};
 ghost use lib.ListN.{length};
@@ -14,7 +15,8 @@ ghost use Rattle.group.specs.Levelling.{levelling, planAfter};
 ghost use Rattle.group.specs.Narrowing.{narrowing, listAfter};
 ghost use Rattle.job.specs.Reading.{readingOf, readTable, lowsAfter, highsAfter};
 ghost use Rattle.works.specs.Calls.{settleText};
-ghost use Rattle.planner.specs.Foreign.{foreignRefusal, foreignLevelled, foreignNarrowed, foreignRead, foreignSettled, limitOf, limitsOf};
+ghost use Rattle.report.specs.Calls.{reportText};
+ghost use Rattle.planner.specs.Foreign.{foreignRefusal, foreignLevelled, foreignNarrowed, foreignRead, foreignSettled, foreignReport, limitOf, limitsOf};
 
 // A refusal; number 0 says that there is none.
 #[repr(C)]
@@ -71,6 +73,14 @@ pub struct ForeignRead {
 pub struct ForeignSettled {
     pub refusal: ForeignRefusal,
     pub passes: u64,
+}
+
+// What reporting a job answers: the report's length, and the passes of 11 and 12.
+#[repr(C)]
+pub struct ForeignReport {
+    pub refusal: ForeignRefusal,
+    pub passes: u64,
+    pub length: usize,
 }
 
 // A refusal as it crosses.
@@ -243,4 +253,52 @@ pub extern "C" fn danivomel_settle(
 {
     let answer = works::calls::settle(text, lows, highs, scratch);
     settling_out(answer)
+}
+
+// A report's answer as it crosses.
+fn reporting_out(answer: Reporting) -> ForeignReport
+    ensures { λ r. ⌜ r ≡ foreignReport answer ⌝ }
+{
+    match answer {
+        Reporting::Written(length) => ForeignReport {
+            refusal: ForeignRefusal {
+                number: 0,
+                place: 0,
+            },
+            passes: 0,
+            length,
+        },
+        Reporting::NoPlan {
+            number,
+            place,
+            passes,
+        } => ForeignReport {
+            refusal: ForeignRefusal { number, place },
+            passes,
+            length: 0,
+        },
+        Reporting::Refused(refusal) => ForeignReport {
+            refusal: refusal_out(refusal),
+            passes: 0,
+            length: 0,
+        },
+    }
+}
+
+// Settles a job text over a table and writes its report, as report::report does.
+#[no_mangle]
+pub extern "C" fn danivomel_report(
+    text: &[u8],
+    lows: &mut [u64],
+    highs: &mut [u64],
+    scratch: &mut [u64],
+    buffer: &mut [u8],
+) -> ForeignReport
+    ensures { λ r. ⌜ r ≡ foreignReport (reportText (now (text .entry)) (now (lows .entry)) (now (highs .entry)) (length (now (scratch .entry))) (now (buffer .entry)) .answer) ⌝ }
+    ensures { λ _. ⌜ now (lows .exit) ≡ reportText (now (text .entry)) (now (lows .entry)) (now (highs .entry)) (length (now (scratch .entry))) (now (buffer .entry)) .lows ⌝ }
+    ensures { λ _. ⌜ now (highs .exit) ≡ reportText (now (text .entry)) (now (lows .entry)) (now (highs .entry)) (length (now (scratch .entry))) (now (buffer .entry)) .highs ⌝ }
+    ensures { λ _. ⌜ now (buffer .exit) ≡ reportText (now (text .entry)) (now (lows .entry)) (now (highs .entry)) (length (now (scratch .entry))) (now (buffer .entry)) .buffer ⌝ }
+{
+    let answer = report::calls::report(text, lows, highs, scratch, buffer);
+    reporting_out(answer)
 }
