@@ -1,0 +1,39 @@
+-- A table of ranges as two lists of numbers, and back. Assumes nothing.
+use Prim.Native.Nat.{ℕ, zero, suc, min}
+use mathlib.Core.List.{List, [], _∷_, map}
+use lib.ListN.{length, replicate}
+use Rattle.table.specs.declared.Range.{Range}
+use Rattle.table.specs.declared.Bounds.{Bounds}
+
+-- the lows of a table
+abbrev pub lowsOf : List Range → List ℕ
+lowsOf t = map (λ r. r .low) t
+
+-- the highs of a table
+abbrev pub highsOf : List Range → List ℕ
+highsOf t = map (λ r. r .high) t
+
+-- the table with these lows and highs
+abbrev pub ranges : List ℕ → List ℕ → List Range
+ranges (l ∷ ls) (h ∷ hs) = record { low = l; high = h } ∷ ranges ls hs
+ranges (l ∷ ls) [] = []
+ranges [] hs = []
+
+-- ys with its first n entries from xs
+abbrev pub over {ℓ} : {A : Type ℓ} → ℕ → List A → List A → List A
+over zero xs ys = ys
+over (suc n) [] ys = ys
+over (suc n) (x ∷ xs) [] = []
+over (suc n) (x ∷ xs) (y ∷ ys) = x ∷ over n xs ys
+
+-- 256 numbers 0
+unfoldable pub zeros : List ℕ
+zeros = replicate 256 0
+
+-- the bounds of a table's first 256 entries
+abbrev pub boundsOf : List Range → Bounds
+boundsOf t = record {
+  lows = over (min (length t) 256) (lowsOf t) zeros;
+  highs = over (min (length t) 256) (highsOf t) zeros;
+  count = min (length t) 256;
+}

@@ -1,0 +1,64 @@
+// A table of ranges, and its first 256 entries as two lists of numbers. A function that holds a table is proved by a walk of
+// its MIR, by hand.
+ghost use mathlib.Core.Path.{_≡_};
+ghost use Prim.Native.Nat.{_≤_, min};
+ghost use lib.ListN.{length};
+ghost use Rattle.table.specs.Tables.{boundsOf, over, ranges};
+
+// The range of a unit.
+pub struct Range {
+    pub low: u64,
+    pub high: u64,
+}
+
+// The lows and the highs of a table's first entries, and how many they are.
+struct Bounds {
+    lows: [u64; 256],
+    highs: [u64; 256],
+    count: usize,
+}
+
+// A job has at most 256 units, so no more entries are looked at.
+fn capped(entries: usize) -> usize
+    ensures { λ r. ⌜ r ≡ min entries 256 ⌝ }
+{
+    if entries < 256 {
+        return entries;
+    }
+    256
+}
+
+// The bounds of a table.
+fn take_bounds(table: &[Range]) -> Bounds
+    ensures { λ r. ⌜ r ≡ boundsOf (now (table .entry)) ⌝ }
+{
+    let mut lows = [0u64; 256];
+    let mut highs = [0u64; 256];
+    let count = capped(table.len());
+    let mut i: usize = 0;
+    while i < count {
+        let entry = table[i];
+        lows[i] = entry.low;
+        highs[i] = entry.high;
+        i = i + 1;
+    }
+    Bounds { lows, highs, count }
+}
+
+// The table with these bounds; entries past the count keep their values.
+fn put_bounds(table: &mut [Range], bounds: Bounds)
+    requires { ⌜ bounds .count ≤ min (length (now table)) 256 ⌝ }
+    ensures { λ _. ⌜ now (table .exit) ≡ over (bounds .count) (ranges (bounds .lows) (bounds .highs)) (now (table .entry)) ⌝ }
+{
+    let lows = bounds.lows;
+    let highs = bounds.highs;
+    let count = bounds.count;
+    let mut i: usize = 0;
+    while i < count {
+        table[i] = Range {
+            low: lows[i],
+            high: highs[i],
+        };
+        i = i + 1;
+    }
+}
