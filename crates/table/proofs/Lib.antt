@@ -1,1 +1,3 @@
+pub mod Lending
+pub mod Thin
 pub mod Walks

@@ -87,6 +87,13 @@ lows-are c is = subst (λ (us : List ℕ). Is (Array u64 256) us (B′.the-laws 
 pub highs-are : (c : Bounds) → Is B.the-row c (LL.vals B.the-type B′.the-laws c) → Is (Array u64 256) (c .highs) (B′.the-laws .1 .0 .val (map (λ k. k) (c .highs)) ∷ [])
 highs-are c is = subst (λ (us : List ℕ). Is (Array u64 256) us (B′.the-laws .1 .0 .val (map (λ k. k) (c .highs)) ∷ [])) (map-id (c .highs)) (LL.owed B.the-type B′.the-laws c _ is .1 .0)
 
+-- both have 256 numbers
+pub lows-length : (c : Bounds) → Is B.the-row c (LL.vals B.the-type B′.the-laws c) → length (c .lows) ≡ 256
+lows-length c is = lows-are c is .1 .0 .1
+
+pub highs-length : (c : Bounds) → Is B.the-row c (LL.vals B.the-type B′.the-laws c) → length (c .highs) ≡ 256
+highs-length c is = highs-are c is .1 .0 .1
+
 module _ {M : Type 1} (𝓤 : URA M) (H : Heap 𝓤) (A : Atoms 𝓤) (W : Given 𝓤 H A) (n : ℕ) (xs : List ℕ) (l : ℕ) where
   -- a local array is the row of its elements
   pub array-out : (v : Val) → Is (Array u64 n) xs (v ∷ []) → ent 𝓤 (H .at fullShare (tyArray (tyInt w64) n) l 0 v) (sem 𝓤 H A (row u64 fullShare xs l 0))

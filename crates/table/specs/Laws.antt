@@ -1,11 +1,12 @@
 -- Laws of a list whose first entries come from another. Assumes nothing.
-use Prim.Native.Nat.{ℕ, zero, suc, _<_}
-use mathlib.Core.Path.{_≡_, refl, ap, _∙_}
-use mathlib.Core.List.{List, [], _∷_, map}
-use native.Mathlib.Nat.{le-of-suc-le-suc, not-suc-le-zero}
-use lib.ListN.{length, getD, set, replicate, length-replicate}
+use Prim.Native.Nat.{ℕ, zero, suc, _<_, _≤_, min}
+use mathlib.Core.Path.{_≡_, refl, sym, ap, _∙_}
+use mathlib.Core.List.{List, [], _∷_, _++_, map}
+use native.Mathlib.Nat.{le-of-suc-le-suc, not-suc-le-zero, suc-inj, zero-min, min-zero, suc-min-suc}
+use native.Mathlib.Omega.{arith}
+use lib.ListN.{length, getD, set, take, replicate, length-replicate, length-map, length-take}
 use Rattle.table.specs.declared.Range.{Range}
-use Rattle.table.specs.Tables.{over, ranges, zeros}
+use Rattle.table.specs.Tables.{over, ranges, zeros, boundsOf, coreOf, calledOf, calledTable}
 
 -- it is as long as the list written over
 pub over-length : {A : Type 0} (n : ℕ) (xs ys : List A) → length (over n xs ys) ≡ length ys
@@ -41,3 +42,46 @@ zeros-are = refl
 
 pub zeros-length : length zeros ≡ 256
 zeros-length = ap length zeros-are ∙ length-replicate {A = ℕ} 256 0
+
+-- the first n of a list whose first n come from another
+take-over : {A : Type 0} (n : ℕ) (xs ys : List A) → n ≤ length xs → n ≤ length ys → take n (over n xs ys) ≡ take n xs
+take-over zero xs ys p q = refl
+take-over (suc n) [] ys p q = absurd (not-suc-le-zero p)
+take-over (suc n) (x ∷ xs) [] p q = absurd (not-suc-le-zero q)
+take-over {A} (suc n) (x ∷ xs) (y ∷ ys) p q = ap (λ (zs : List A). x ∷ zs) (take-over n xs ys (le-of-suc-le-suc p) (le-of-suc-le-suc q))
+
+-- to take no more than there are
+take-least : {A : Type 0} (m : ℕ) (xs : List A) → take (min (length xs) m) xs ≡ take m xs
+take-least zero xs = rw (min-zero (length xs)) refl
+take-least (suc m) [] = rw (zero-min (suc m)) refl
+take-least {A} (suc m) (x ∷ xs) = rw (suc-min-suc (length xs) m) (ap (λ (zs : List A). x ∷ zs) (take-least m xs))
+
+-- the numbers that a table's bounds hold of a field are the field's first 256
+pub bounds-hold : (f : Range → ℕ) (t : List Range) → take (min (length t) 256) (over (min (length t) 256) (map f t) zeros) ≡ take 256 (map f t)
+bounds-hold f t =
+    take-over (min (length t) 256) (map f t) zeros (rw (length-map t f) (omega arith)) (rw zeros-length (omega arith))
+    ∙ ap (λ (n : ℕ). take (min n 256) (map f t)) (sym (length-map t f)) ∙ take-least 256 (map f t)
+
+-- what stands past as many lows and highs as are written does not matter
+pub over-front : (n m : ℕ) (ls hs ks js : List ℕ) (t : List Range) → length ls ≡ n → length hs ≡ n → n ≤ m → over n (ranges (ls ++ ks) (hs ++ js)) t ≡ over m (ranges ls hs) t
+over-front zero zero [] [] ks js t p q le = refl
+over-front zero (suc m) [] [] ks js t p q le = refl
+over-front (suc n) (suc m) (l ∷ ls) (h ∷ hs) ks js [] p q le = refl
+over-front (suc n) (suc m) (l ∷ ls) (h ∷ hs) ks js (r ∷ t) p q le =
+    ap (λ (zs : List Range). record { low = l; high = h } ∷ zs) (over-front n m ls hs ks js t (suc-inj p) (suc-inj q) (le-of-suc-le-suc le))
+over-front (suc n) zero ls hs ks js t p q le = absurd (not-suc-le-zero le)
+over-front (suc n) (suc m) [] hs ks js t p q le = absurd (omega (arith, p))
+over-front (suc n) (suc m) (l ∷ ls) [] ks js t p q le = absurd (omega (arith, q))
+over-front zero m (l ∷ ls) hs ks js t p q le = absurd (omega (arith, p))
+over-front zero m [] (h ∷ hs) ks js t p q le = absurd (omega (arith, q))
+
+-- the bounds that the core leaves, written over the table, are the table after the core
+pub called-table : (text : List ℕ) (t : List Range)
+    → over (min (length t) 256) (ranges (calledOf text (boundsOf t) .bounds .lows) (calledOf text (boundsOf t) .bounds .highs)) t ≡ calledTable t
+called-table text t =
+    let n : ℕ = min (length t) 256 in
+    over-front n 256 (coreOf (take n (boundsOf t .lows))) (coreOf (take n (boundsOf t .highs))) _ _ t (count (λ r. r .low)) (count (λ r. r .high)) (omega arith)
+    ∙ rw (bounds-hold (λ r. r .low) t, bounds-hold (λ r. r .high) t) refl
+  where
+    count : (f : Range → ℕ) → length (coreOf (take (min (length t) 256) (over (min (length t) 256) (map f t) zeros))) ≡ min (length t) 256
+    count f = length-replicate _ 1 ∙ ap length (bounds-hold f t) ∙ length-take 256 (map f t) ∙ rw (length-map t f) (omega arith)

@@ -1,9 +1,10 @@
 -- A table of ranges as two lists of numbers, and back. Assumes nothing.
 use Prim.Native.Nat.{ℕ, zero, suc, min}
-use mathlib.Core.List.{List, [], _∷_, map}
-use lib.ListN.{length, replicate}
+use mathlib.Core.List.{List, [], _∷_, _++_, map}
+use lib.ListN.{length, take, drop, replicate}
 use Rattle.table.specs.declared.Range.{Range}
 use Rattle.table.specs.declared.Bounds.{Bounds}
+use Rattle.table.specs.declared.Called.{Called}
 
 -- the lows of a table
 abbrev pub lowsOf : List Range → List ℕ
@@ -37,3 +38,22 @@ boundsOf t = record {
   highs = over (min (length t) 256) (highsOf t) zeros;
   count = min (length t) 256;
 }
+
+-- what the core makes of a list
+abbrev pub coreOf : List ℕ → List ℕ
+coreOf xs = replicate (length xs) 1
+
+-- what the core makes of bounds
+abbrev pub calledOf : List ℕ → Bounds → Called
+calledOf text c = record {
+  bounds = record {
+    lows = coreOf (take (c .count) (c .lows)) ++ drop (c .count) (c .lows);
+    highs = coreOf (take (c .count) (c .highs)) ++ drop (c .count) (c .highs);
+    count = c .count;
+  };
+  answer = length text;
+}
+
+-- the table after the core
+abbrev pub calledTable : List Range → List Range
+calledTable t = over 256 (ranges (coreOf (take 256 (lowsOf t))) (coreOf (take 256 (highsOf t)))) t

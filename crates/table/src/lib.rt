@@ -3,7 +3,7 @@
 ghost use mathlib.Core.Path.{_≡_};
 ghost use Prim.Native.Nat.{_≤_, min};
 ghost use lib.ListN.{length};
-ghost use Rattle.table.specs.Tables.{boundsOf, over, ranges};
+ghost use Rattle.table.specs.Tables.{boundsOf, over, ranges, coreOf, calledOf, calledTable};
 
 // The range of a unit.
 pub struct Range {
@@ -61,4 +61,63 @@ fn put_bounds(table: &mut [Range], bounds: Bounds)
         };
         i = i + 1;
     }
+}
+
+// What a call on the bounds hands back: the bounds after it, and its answer.
+struct Called {
+    bounds: Bounds,
+    answer: u64,
+}
+
+// In the place of a core on lists of numbers, until that is there.
+fn ones(numbers: &mut [u64])
+    ensures { λ _. ⌜ now (numbers .exit) ≡ coreOf (now (numbers .entry)) ⌝ }
+{
+    let mut i: usize = 0;
+    while i < numbers.len() {
+        numbers[i] = 1;
+        i = i + 1;
+    }
+}
+
+fn core(text: &[u8], lows: &mut [u64], highs: &mut [u64], scratch: &mut [u64]) -> u64
+    ensures { λ r. ⌜ r ≡ length (now (text .entry)) ⌝ }
+    ensures { λ _. ⌜ (now (lows .exit) ≡ coreOf (now (lows .entry))) × (now (highs .exit) ≡ coreOf (now (highs .entry))) ⌝ }
+{
+    ones(lows);
+    ones(highs);
+    ones(scratch);
+    wide(text.len())
+}
+
+fn wide(n: usize) -> u64
+    ensures { λ r. ⌜ r ≡ n ⌝ }
+{
+    n as u64
+}
+
+// The core, called on the bounds' numbers.
+fn call_on(text: &[u8], bounds: Bounds, scratch: &mut [u64]) -> Called
+    requires { ⌜ bounds .count ≤ 256 ⌝ }
+    ensures { λ r. ⌜ r ≡ calledOf (now (text .entry)) bounds ⌝ }
+{
+    let mut lows = bounds.lows;
+    let mut highs = bounds.highs;
+    let count = bounds.count;
+    let answer = core(text, &mut lows[..count], &mut highs[..count], scratch);
+    let after = Bounds { lows, highs, count };
+    Called {
+        bounds: after,
+        answer,
+    }
+}
+
+// The core, called on a table.
+pub fn call(text: &[u8], table: &mut [Range], scratch: &mut [u64]) -> u64
+    ensures { λ r. ⌜ (r ≡ length (now (text .entry))) × (now (table .exit) ≡ calledTable (now (table .entry))) ⌝ }
+{
+    let before = take_bounds(table);
+    let called = call_on(text, before, scratch);
+    put_bounds(table, called.bounds);
+    called.answer
 }
