@@ -5,9 +5,6 @@ use lib.ListN.{length-take}
 use Rattle.table.proofs.Walks.{lows-length, highs-length}
 use Rattle.table.proofs.call_on.Statement.{statement}
 use Rattle.table.proofs.call_on.Tie as tie
-use Rattle.table.proofs.call_on.Reads as reads
-use Rattle.table.proofs.call_on.Lts as lts
-use Rattle.table.proofs.core.Reads as core-reads
 
 array-borrow-prefix-lows : tie.Need-array-borrow-prefix-lows
 array-borrow-prefix-lows c = omega (arith, lows-length (c .before .before .before .before .args .bounds) (c .before .before .before .before .good .1 .0), c .before .before .before .before .pre)

@@ -7,8 +7,6 @@ use borrow.Author.Needs.{needs}
 use native.Mathlib.Omega.{arith}
 use Rattle.table.proofs.ones.Statement.{statement}
 use Rattle.table.proofs.ones.Tie as tie
-use Rattle.table.proofs.ones.Reads as reads
-use Rattle.table.proofs.ones.Lts as lts
 
 abbrev Inv-loop : tie.InvT-loop
 Inv-loop numbers₀ i₀ numbers i = (numbers ≡ replicate i 1 ++ drop i numbers₀) × (i ≤ length numbers₀) × (length numbers ≡ length numbers₀)
