@@ -4,9 +4,9 @@ use mathlib.Core.Path.{_≡_, refl, sym, ap, _∙_}
 use mathlib.Core.List.{List, [], _∷_, _++_, map}
 use native.Mathlib.Nat.{le-of-suc-le-suc, not-suc-le-zero, suc-inj, zero-min, min-zero, suc-min-suc}
 use native.Mathlib.Omega.{arith}
-use lib.ListN.{length, getD, set, take, replicate, length-replicate, length-map, length-take}
+use lib.ListN.{length, getD, set, take, drop, take-append-drop, replicate, length-replicate, length-map, length-take}
 use Rattle.table.specs.declared.Range.{Range}
-use Rattle.table.specs.Tables.{over, ranges, zeros, boundsOf, coreOf, calledOf, calledTable}
+use Rattle.table.specs.Tables.{over, ranges, zeros, boundsOf, coreOf, calledOf, calledTable, readOf, readTable}
 
 -- it is as long as the list written over
 pub over-length : {A : Type 0} (n : ℕ) (xs ys : List A) → length (over n xs ys) ≡ length ys
@@ -85,3 +85,15 @@ called-table text t =
   where
     count : (f : Range → ℕ) → length (coreOf (take (min (length t) 256) (over (min (length t) 256) (map f t) zeros))) ≡ min (length t) 256
     count f = length-replicate _ 1 ∙ ap length (bounds-hold f t) ∙ length-take 256 (map f t) ∙ rw (length-map t f) (omega arith)
+
+-- and so of the bounds that reading leaves
+pub read-table : (text : List ℕ) (at : ℕ) (t : List Range)
+    → over (min (length t) 256) (ranges (readOf text at (boundsOf t) .bounds .lows) (readOf text at (boundsOf t) .bounds .highs)) t ≡ readTable t
+read-table text at t =
+    let n : ℕ = min (length t) 256 in
+    ap (λ (hs : List ℕ). over n (ranges (coreOf (take n (boundsOf t .lows)) ++ drop n (boundsOf t .lows)) hs) t) (sym (take-append-drop n (boundsOf t .highs)))
+    ∙ over-front n 256 (coreOf (take n (boundsOf t .lows))) (take n (boundsOf t .highs)) _ _ t (length-replicate _ 1 ∙ count (λ r. r .low)) (count (λ r. r .high)) (omega arith)
+    ∙ rw (bounds-hold (λ r. r .low) t, bounds-hold (λ r. r .high) t) refl
+  where
+    count : (f : Range → ℕ) → length (take (min (length t) 256) (over (min (length t) 256) (map f t) zeros)) ≡ min (length t) 256
+    count f = ap length (bounds-hold f t) ∙ length-take 256 (map f t) ∙ rw (length-map t f) (omega arith)

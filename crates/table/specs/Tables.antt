@@ -57,3 +57,18 @@ calledOf text c = record {
 -- the table after the core
 abbrev pub calledTable : List Range → List Range
 calledTable t = over 256 (ranges (coreOf (take 256 (lowsOf t))) (coreOf (take 256 (highsOf t)))) t
+
+-- what reading makes of bounds
+abbrev pub readOf : List ℕ → ℕ → Bounds → Called
+readOf text at c = record {
+  bounds = record {
+    lows = coreOf (take (c .count) (c .lows)) ++ drop (c .count) (c .lows);
+    highs = c .highs;
+    count = c .count;
+  };
+  answer = at;
+}
+
+-- the table after reading
+abbrev pub readTable : List Range → List Range
+readTable t = over 256 (ranges (coreOf (take 256 (lowsOf t))) (take 256 (highsOf t))) t

@@ -3,7 +3,7 @@
 ghost use mathlib.Core.Path.{_≡_};
 ghost use Prim.Native.Nat.{_≤_, min};
 ghost use lib.ListN.{length};
-ghost use Rattle.table.specs.Tables.{boundsOf, over, ranges, coreOf, calledOf, calledTable};
+ghost use Rattle.table.specs.Tables.{boundsOf, over, ranges, coreOf, calledOf, calledTable, readOf, readTable};
 
 // The range of a unit.
 pub struct Range {
@@ -118,6 +118,56 @@ pub fn call(text: &[u8], table: &mut [Range], scratch: &mut [u64]) -> u64
 {
     let before = take_bounds(table);
     let called = call_on(text, before, scratch);
+    put_bounds(table, called.bounds);
+    called.answer
+}
+
+// The job text, with the spot that reading has reached.
+pub struct Reader<'a> {
+    text: &'a [u8],
+    at: usize,
+}
+
+// In the place of a core that reads from a spot on, until that is there.
+fn read_from(text: &[u8], at: usize, bounds: Bounds) -> Called
+    requires { ⌜ bounds .count ≤ 256 ⌝ }
+    ensures { λ r. ⌜ r ≡ readOf (now (text .entry)) at bounds ⌝ }
+{
+    let mut lows = bounds.lows;
+    let count = bounds.count;
+    ones(&mut lows[..count]);
+    let highs = bounds.highs;
+    let after = Bounds { lows, highs, count };
+    Called {
+        bounds: after,
+        answer: wide(at),
+    }
+}
+
+impl<'a> Reader<'a> {
+    // At the start of the text.
+    pub fn new(text: &'a [u8]) -> Reader<'a>
+        ensures { λ r. ⌜ (r .text ≡ text .entry) × (r .at ≡ 0) ⌝ }
+    {
+        Reader { text, at: 0 }
+    }
+
+    // Reads from the spot on.
+    fn read_on(self, bounds: Bounds) -> Called
+        requires { ⌜ bounds .count ≤ 256 ⌝ }
+        ensures { λ r. ⌜ r ≡ readOf (now (self .entry .text)) (self .entry .at) bounds ⌝ }
+    {
+        read_from(self.text, self.at, bounds)
+    }
+}
+
+// Reads a text into a table.
+pub fn read(text: &[u8], table: &mut [Range]) -> u64
+    ensures { λ r. ⌜ (r ≡ 0) × (now (table .exit) ≡ readTable (now (table .entry))) ⌝ }
+{
+    let reader = Reader::new(text);
+    let before = take_bounds(table);
+    let called = reader.read_on(before);
     put_bounds(table, called.bounds);
     called.answer
 }

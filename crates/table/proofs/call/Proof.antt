@@ -44,7 +44,7 @@ use Rattle.table.specs.Tables.{over, ranges, boundsOf, calledOf}
 use Rattle.table.specs.Laws.{over-length, called-table}
 use Rattle.table.proofs.Closing.{proved}
 use Rattle.table.proofs.Lending.{sliceAt}
-use Rattle.table.proofs.Thin.{Take, Put, takes, puts}
+use Rattle.table.proofs.Thin.{bounds-of, answer-of, Take, Put, takes, puts}
 use Rattle.table.proofs.Walks.{releases}
 use Rattle.table.proofs.Range as T
 use Rattle.table.proofs.Bounds as B
@@ -118,13 +118,6 @@ module _ {M : Type 1} (𝓤 : URA M) (H : Heap 𝓤) (A : Atoms 𝓤) (W : Given
       qed W (‵ (flft κ₀ q₀) ∷ ‵ (flft κ₂ q₂) ∷ ‵ (ShrSlice (named 0) κ₀ u8 .own (a .0) (s₀ ∷ [])) ∷ ‵ (MutSlice (named 1) κ₂ u64 .own (a .1 .1 .0) (s₂ ∷ [])) ∷ []) ∵ says ! (omega arith) $
       nothing ! $ move ! (2 ∷ 0 ∷ []) $ join ! $ move ! (1 ∷ 0 ∷ []) $ join ! $ frame ! $
       nothing ! $ move ! (2 ∷ 0 ∷ []) $ fjoin ! $ owned ! B.the-row (Is B.the-row) (LL.makes B.the-type B′.the-plain 𝓤 H A) (boundsOf ys) (w ∷ []) is $ fjoin ! $ move ! (1 ∷ 0 ∷ []) $ fjoin ! $ done !
-
-  -- the bounds within what `call_on` hands back
-  bounds-of : (r : Called) {vs : List Val} → Is D.the-row r vs → Is B.the-row (r .bounds) (LL.vals B.the-type B′.the-laws (r .bounds))
-  bounds-of r is = LL.owed D.the-type D′.the-laws r _ is .0
-
-  answer-of : (r : Called) {vs : List Val} → Is D.the-row r vs → Is u64 (r .answer) (vint w64 (r .answer) ∷ [])
-  answer-of r is = LL.owed D.the-type D′.the-laws r _ is .1 .0
 
   module _ (C : Calls 𝓤 H) (Λ : Loops 𝓤 H) (fm : FmC 𝓤 H (W .laws) C) (known-take : Triple 𝓤 (C #table·take-bounds) (Take 𝓤 H A mem run)) (known-on : Triple 𝓤 (C #table·call-on) (On 𝓤 H A mem run)) (known-put : Triple 𝓤 (C #table·put-bounds) (Put 𝓤 H A mem run)) where
     walk : ent 𝓤 (onEntry 𝓤 H A call.signature (κ₀, (κ, (κ₂, tt))) (q₀, (q, (q₂, tt))) a at) (WpFn 𝓤 H C Λ code.function (s₀ ∷ s ∷ s₂ ∷ []) Post)

@@ -1,3 +1,4 @@
+-- `table::call_on` meets its contract: the core's contract at the first numbers of both arrays. Assumes nothing.
 use mathlib.Core.Path.{refl}
 use borrow.Author.Needs.{needs}
 use native.Mathlib.Omega.{arith}

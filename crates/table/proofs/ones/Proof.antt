@@ -1,3 +1,4 @@
+-- `table::ones` meets its contract: the first i numbers are 1, the others as they were. Assumes nothing.
 use mathlib.Core.Path.{_≡_, refl, ap, _∙_}
 use mathlib.Core.List.{List, _++_, append-nil}
 use Prim.Native.Nat.{ℕ, _-_, _<_, _≤_}
