@@ -4,9 +4,9 @@ use mathlib.Core.Path.{_≡_, refl, sym, ap, _∙_}
 use mathlib.Core.List.{List, [], _∷_, _++_, map}
 use native.Mathlib.Nat.{le-of-suc-le-suc, not-suc-le-zero, suc-inj, zero-min, min-zero, suc-min-suc}
 use native.Mathlib.Omega.{arith}
-use lib.ListN.{length, getD, set, take, drop, take-append-drop, replicate, length-replicate, length-map, length-take}
+use lib.ListN.{length, getD, set, take, drop, replicate, length-replicate, length-map, length-append, length-drop}
 use Rattle.table.specs.declared.Range.{Range}
-use Rattle.table.specs.Tables.{over, ranges, zeros, boundsOf, coreOf, calledOf, calledTable, readOf, readTable}
+use Rattle.table.specs.Tables.{lowsOf, highsOf, over, ranges, zeros, boundsOf}
 
 -- it is as long as the list written over
 pub over-length : {A : Type 0} (n : ℕ) (xs ys : List A) → length (over n xs ys) ≡ length ys
@@ -62,38 +62,43 @@ bounds-hold f t =
     take-over (min (length t) 256) (map f t) zeros (rw (length-map t f) (omega arith)) (rw zeros-length (omega arith))
     ∙ ap (λ (n : ℕ). take (min n 256) (map f t)) (sym (length-map t f)) ∙ take-least 256 (map f t)
 
--- what stands past as many lows and highs as are written does not matter
-pub over-front : (n m : ℕ) (ls hs ks js : List ℕ) (t : List Range) → length ls ≡ n → length hs ≡ n → n ≤ m → over n (ranges (ls ++ ks) (hs ++ js)) t ≡ over m (ranges ls hs) t
-over-front zero zero [] [] ks js t p q le = refl
-over-front zero (suc m) [] [] ks js t p q le = refl
-over-front (suc n) (suc m) (l ∷ ls) (h ∷ hs) ks js [] p q le = refl
-over-front (suc n) (suc m) (l ∷ ls) (h ∷ hs) ks js (r ∷ t) p q le =
-    ap (λ (zs : List Range). record { low = l; high = h } ∷ zs) (over-front n m ls hs ks js t (suc-inj p) (suc-inj q) (le-of-suc-le-suc le))
-over-front (suc n) zero ls hs ks js t p q le = absurd (not-suc-le-zero le)
-over-front (suc n) (suc m) [] hs ks js t p q le = absurd (omega (arith, p))
-over-front (suc n) (suc m) (l ∷ ls) [] ks js t p q le = absurd (omega (arith, q))
-over-front zero m (l ∷ ls) hs ks js t p q le = absurd (omega (arith, p))
-over-front zero m [] (h ∷ hs) ks js t p q le = absurd (omega (arith, q))
+-- nor does it matter how many more than there are go
+drop-least : {A : Type 0} (m : ℕ) (xs : List A) → drop (min (length xs) m) xs ≡ drop m xs
+drop-least zero xs = rw (min-zero (length xs)) refl
+drop-least (suc m) [] = rw (zero-min (suc m)) refl
+drop-least (suc m) (x ∷ xs) = rw (suc-min-suc (length xs) m) (drop-least m xs)
 
--- the bounds that the core leaves, written over the table, are the table after the core
-pub called-table : (text : List ℕ) (t : List Range)
-    → over (min (length t) 256) (ranges (calledOf text (boundsOf t) .bounds .lows) (calledOf text (boundsOf t) .bounds .highs)) t ≡ calledTable t
-called-table text t =
-    let n : ℕ = min (length t) 256 in
-    over-front n 256 (coreOf (take n (boundsOf t .lows))) (coreOf (take n (boundsOf t .highs))) _ _ t (count (λ r. r .low)) (count (λ r. r .high)) (omega arith)
-    ∙ rw (bounds-hold (λ r. r .low) t, bounds-hold (λ r. r .high) t) refl
-  where
-    count : (f : Range → ℕ) → length (coreOf (take (min (length t) 256) (over (min (length t) 256) (map f t) zeros))) ≡ min (length t) 256
-    count f = length-replicate _ 1 ∙ ap length (bounds-hold f t) ∙ length-take 256 (map f t) ∙ rw (length-map t f) (omega arith)
+-- the lows and highs of a table written over with as many as there are: what stands past them does not matter
+over-fields : (n : ℕ) (ls hs ks js : List ℕ) (t : List Range) → length ls ≡ n → length hs ≡ n → n ≤ length t
+    → (lowsOf (over n (ranges (ls ++ ks) (hs ++ js)) t) ≡ ls ++ drop n (lowsOf t)) × (highsOf (over n (ranges (ls ++ ks) (hs ++ js)) t) ≡ hs ++ drop n (highsOf t))
+over-fields zero [] [] ks js t p q le = (refl, refl)
+over-fields zero [] (h ∷ hs) ks js t p q le = absurd (omega (arith, q))
+over-fields zero (l ∷ ls) hs ks js t p q le = absurd (omega (arith, p))
+over-fields (suc n) [] hs ks js t p q le = absurd (omega (arith, p))
+over-fields (suc n) (l ∷ ls) [] ks js t p q le = absurd (omega (arith, q))
+over-fields (suc n) (l ∷ ls) (h ∷ hs) ks js [] p q le = absurd (not-suc-le-zero le)
+over-fields (suc n) (l ∷ ls) (h ∷ hs) ks js (r ∷ t) p q le =
+    let rest = over-fields n ls hs ks js t (suc-inj p) (suc-inj q) (le-of-suc-le-suc le) in
+    (ap (λ (zs : List ℕ). l ∷ zs) (rest .0), ap (λ (zs : List ℕ). h ∷ zs) (rest .1))
 
--- and so of the bounds that reading leaves
-pub read-table : (text : List ℕ) (at : ℕ) (t : List Range)
-    → over (min (length t) 256) (ranges (readOf text at (boundsOf t) .bounds .lows) (readOf text at (boundsOf t) .bounds .highs)) t ≡ readTable t
-read-table text at t =
+-- lists that fill an array together with what it held past them are as long as the bounds say
+front-length : (f : Range → ℕ) (t : List Range) (ls : List ℕ)
+    → length (ls ++ drop (min (length t) 256) (over (min (length t) 256) (map f t) zeros)) ≡ 256 → length ls ≡ min (length t) 256
+front-length f t ls whole =
     let n : ℕ = min (length t) 256 in
-    ap (λ (hs : List ℕ). over n (ranges (coreOf (take n (boundsOf t .lows)) ++ drop n (boundsOf t .lows)) hs) t) (sym (take-append-drop n (boundsOf t .highs)))
-    ∙ over-front n 256 (coreOf (take n (boundsOf t .lows))) (take n (boundsOf t .highs)) _ _ t (length-replicate _ 1 ∙ count (λ r. r .low)) (count (λ r. r .high)) (omega arith)
-    ∙ rw (bounds-hold (λ r. r .low) t, bounds-hold (λ r. r .high) t) refl
+    let kept : List ℕ = over n (map f t) zeros in
+    let all : length kept ≡ 256 = over-length n (map f t) zeros ∙ zeros-length in
+    omega (arith, whole, length-append ls (drop n kept), length-drop n kept, all)
+
+-- a table after bounds whose first numbers are these: its entries past the first 256 keep their values
+pub put-table : (t : List Range) (ls hs : List ℕ) → let n : ℕ = min (length t) 256 in
+    let lows : List ℕ = ls ++ drop n (boundsOf t .lows) in let highs : List ℕ = hs ++ drop n (boundsOf t .highs) in
+    length lows ≡ 256 → length highs ≡ 256
+    → (lowsOf (over n (ranges lows highs) t) ≡ ls ++ drop 256 (lowsOf t)) × (highsOf (over n (ranges lows highs) t) ≡ hs ++ drop 256 (highsOf t))
+put-table t ls hs p q =
+    let n : ℕ = min (length t) 256 in
+    let both = over-fields n ls hs (drop n (boundsOf t .lows)) (drop n (boundsOf t .highs)) t (front-length (λ r. r .low) t ls p) (front-length (λ r. r .high) t hs q) (omega arith) in
+    (both .0 ∙ ap (λ (zs : List ℕ). ls ++ zs) (past (λ r. r .low)), both .1 ∙ ap (λ (zs : List ℕ). hs ++ zs) (past (λ r. r .high)))
   where
-    count : (f : Range → ℕ) → length (take (min (length t) 256) (over (min (length t) 256) (map f t) zeros)) ≡ min (length t) 256
-    count f = ap length (bounds-hold f t) ∙ length-take 256 (map f t) ∙ rw (length-map t f) (omega arith)
+    past : (f : Range → ℕ) → drop (min (length t) 256) (map f t) ≡ drop 256 (map f t)
+    past f = ap (λ (n : ℕ). drop (min n 256) (map f t)) (sym (length-map t f)) ∙ drop-least 256 (map f t)

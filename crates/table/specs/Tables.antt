@@ -4,7 +4,11 @@ use mathlib.Core.List.{List, [], _∷_, _++_, map}
 use lib.ListN.{length, take, drop, replicate}
 use Rattle.table.specs.declared.Range.{Range}
 use Rattle.table.specs.declared.Bounds.{Bounds}
-use Rattle.table.specs.declared.Called.{Called}
+use Rattle.table.specs.declared.SettledBounds.{SettledBounds}
+use Rattle.table.specs.declared.ReadBounds.{ReadBounds}
+use Rattle.job.specs.Job.{Outcome}
+use Rattle.job.specs.Reading.{readingOf, readTable, lowsAfter, highsAfter}
+use Rattle.works.specs.Calls.{Settlement, settleText}
 
 -- the lows of a table
 abbrev pub lowsOf : List Range → List ℕ
@@ -39,36 +43,22 @@ boundsOf t = record {
   count = min (length t) 256;
 }
 
--- what the core makes of a list
-abbrev pub coreOf : List ℕ → List ℕ
-coreOf xs = replicate (length xs) 1
+-- what settling a text over bounds hands back, with a scratch of so many numbers
+abbrev pub afterSettling : List ℕ → Bounds → ℕ → SettledBounds
+afterSettling text c scratch =
+    let s : Settlement = settleText text (take (c .count) (c .lows)) (take (c .count) (c .highs)) scratch in
+    record {
+      bounds = record { lows = s .lows ++ drop (c .count) (c .lows); highs = s .highs ++ drop (c .count) (c .highs); count = c .count };
+      answer = s .answer;
+    }
 
--- what the core makes of bounds
-abbrev pub calledOf : List ℕ → Bounds → Called
-calledOf text c = record {
-  bounds = record {
-    lows = coreOf (take (c .count) (c .lows)) ++ drop (c .count) (c .lows);
-    highs = coreOf (take (c .count) (c .highs)) ++ drop (c .count) (c .highs);
-    count = c .count;
-  };
-  answer = length text;
-}
-
--- the table after the core
-abbrev pub calledTable : List Range → List Range
-calledTable t = over 256 (ranges (coreOf (take 256 (lowsOf t))) (coreOf (take 256 (highsOf t)))) t
-
--- what reading makes of bounds
-abbrev pub readOf : List ℕ → ℕ → Bounds → Called
-readOf text at c = record {
-  bounds = record {
-    lows = coreOf (take (c .count) (c .lows)) ++ drop (c .count) (c .lows);
-    highs = c .highs;
-    count = c .count;
-  };
-  answer = at;
-}
-
--- the table after reading
-abbrev pub readTable : List Range → List Range
-readTable t = over 256 (ranges (coreOf (take 256 (lowsOf t))) (take 256 (highsOf t))) t
+-- what reading a text into bounds hands back
+abbrev pub afterReading : List ℕ → Bounds → ReadBounds
+afterReading text c =
+    let lows : List ℕ = take (c .count) (c .lows) in
+    let highs : List ℕ = take (c .count) (c .highs) in
+    let found : Outcome = readTable text (length lows) (length highs) in
+    record {
+      bounds = record { lows = lowsAfter found lows ++ drop (c .count) (c .lows); highs = highsAfter found highs ++ drop (c .count) (c .highs); count = c .count };
+      answer = readingOf found;
+    }

@@ -1,9 +1,13 @@
-// A table of ranges, and its first 256 entries as two lists of numbers. A function that holds a table is proved by a walk of
-// its MIR, by hand.
+// Reading a job text into a table of ranges, and settling it over one: thin functions above those on two lists of numbers.
+// A function that holds a table or a reader is proved by a walk of its MIR, by hand.
+use job::Reading;
+use works::Settling;
 ghost use mathlib.Core.Path.{_≡_};
 ghost use Prim.Native.Nat.{_≤_, min};
-ghost use lib.ListN.{length};
-ghost use Rattle.table.specs.Tables.{boundsOf, over, ranges, coreOf, calledOf, calledTable, readOf, readTable};
+ghost use lib.ListN.{length, drop};
+ghost use Rattle.job.specs.Reading.{Filled};
+ghost use Rattle.works.specs.Calls.{settlement, settleText};
+ghost use Rattle.table.specs.Tables.{lowsOf, highsOf, boundsOf, over, ranges, afterSettling, afterReading};
 
 // The range of a unit.
 pub struct Range {
@@ -63,63 +67,36 @@ fn put_bounds(table: &mut [Range], bounds: Bounds)
     }
 }
 
-// What a call on the bounds hands back: the bounds after it, and its answer.
-struct Called {
+// What settling over bounds hands back: the bounds after it, and its answer.
+struct SettledBounds {
     bounds: Bounds,
-    answer: u64,
+    answer: Settling,
 }
 
-// In the place of a core on lists of numbers, until that is there.
-fn ones(numbers: &mut [u64])
-    ensures { λ _. ⌜ now (numbers .exit) ≡ coreOf (now (numbers .entry)) ⌝ }
-{
-    let mut i: usize = 0;
-    while i < numbers.len() {
-        numbers[i] = 1;
-        i = i + 1;
-    }
-}
-
-fn core(text: &[u8], lows: &mut [u64], highs: &mut [u64], scratch: &mut [u64]) -> u64
-    ensures { λ r. ⌜ r ≡ length (now (text .entry)) ⌝ }
-    ensures { λ _. ⌜ (now (lows .exit) ≡ coreOf (now (lows .entry))) × (now (highs .exit) ≡ coreOf (now (highs .entry))) ⌝ }
-{
-    ones(lows);
-    ones(highs);
-    ones(scratch);
-    wide(text.len())
-}
-
-fn wide(n: usize) -> u64
-    ensures { λ r. ⌜ r ≡ n ⌝ }
-{
-    n as u64
-}
-
-// The core, called on the bounds' numbers.
-fn call_on(text: &[u8], bounds: Bounds, scratch: &mut [u64]) -> Called
+// Settles a job text over bounds.
+fn settle_bounds(text: &[u8], bounds: Bounds, scratch: &mut [u64]) -> SettledBounds
     requires { ⌜ bounds .count ≤ 256 ⌝ }
-    ensures { λ r. ⌜ r ≡ calledOf (now (text .entry)) bounds ⌝ }
+    ensures { λ r. ⌜ r ≡ afterSettling (now (text .entry)) bounds (length (now (scratch .entry))) ⌝ }
 {
     let mut lows = bounds.lows;
     let mut highs = bounds.highs;
     let count = bounds.count;
-    let answer = core(text, &mut lows[..count], &mut highs[..count], scratch);
+    let answer = works::calls::settle(text, &mut lows[..count], &mut highs[..count], scratch);
     let after = Bounds { lows, highs, count };
-    Called {
+    SettledBounds {
         bounds: after,
         answer,
     }
 }
 
-// The core, called on a table.
-pub fn call(text: &[u8], table: &mut [Range], scratch: &mut [u64]) -> u64
-    ensures { λ r. ⌜ (r ≡ length (now (text .entry))) × (now (table .exit) ≡ calledTable (now (table .entry))) ⌝ }
+// Settles a job text over a table, as works::calls::settle does over its lows and highs.
+pub fn settle(text: &[u8], table: &mut [Range], scratch: &mut [u64]) -> Settling
+    ensures { λ r. ⌜ settlement r (lowsOf (now (table .exit))) (highsOf (now (table .exit))) ≡ settleText (now (text .entry)) (lowsOf (now (table .entry))) (highsOf (now (table .entry))) (length (now (scratch .entry))) ⌝ }
 {
     let before = take_bounds(table);
-    let called = call_on(text, before, scratch);
-    put_bounds(table, called.bounds);
-    called.answer
+    let settled = settle_bounds(text, before, scratch);
+    put_bounds(table, settled.bounds);
+    settled.answer
 }
 
 // The job text, with the spot that reading has reached.
@@ -128,19 +105,25 @@ pub struct Reader<'a> {
     at: usize,
 }
 
-// In the place of a core that reads from a spot on, until that is there.
-fn read_from(text: &[u8], at: usize, bounds: Bounds) -> Called
-    requires { ⌜ bounds .count ≤ 256 ⌝ }
-    ensures { λ r. ⌜ r ≡ readOf (now (text .entry)) at bounds ⌝ }
+// What reading into bounds hands back: the bounds after it, and its answer.
+struct ReadBounds {
+    bounds: Bounds,
+    answer: Reading,
+}
+
+// Reads a text from a spot on into bounds.
+fn read_bounds(text: &[u8], at: usize, bounds: Bounds) -> ReadBounds
+    requires { ⌜ (at ≤ length (now text)) × (bounds .count ≤ 256) ⌝ }
+    ensures { λ r. ⌜ r ≡ afterReading (drop at (now (text .entry))) bounds ⌝ }
 {
     let mut lows = bounds.lows;
+    let mut highs = bounds.highs;
     let count = bounds.count;
-    ones(&mut lows[..count]);
-    let highs = bounds.highs;
+    let answer = job::read(&text[at..], &mut lows[..count], &mut highs[..count]);
     let after = Bounds { lows, highs, count };
-    Called {
+    ReadBounds {
         bounds: after,
-        answer: wide(at),
+        answer,
     }
 }
 
@@ -153,21 +136,21 @@ impl<'a> Reader<'a> {
     }
 
     // Reads from the spot on.
-    fn read_on(self, bounds: Bounds) -> Called
-        requires { ⌜ bounds .count ≤ 256 ⌝ }
-        ensures { λ r. ⌜ r ≡ readOf (now (self .entry .text)) (self .entry .at) bounds ⌝ }
+    fn read_on(self, bounds: Bounds) -> ReadBounds
+        requires { ⌜ (self .at ≤ length (now (self .text))) × (bounds .count ≤ 256) ⌝ }
+        ensures { λ r. ⌜ r ≡ afterReading (drop (self .entry .at) (now (self .entry .text))) bounds ⌝ }
     {
-        read_from(self.text, self.at, bounds)
+        read_bounds(self.text, self.at, bounds)
     }
 }
 
-// Reads a text into a table.
-pub fn read(text: &[u8], table: &mut [Range]) -> u64
-    ensures { λ r. ⌜ (r ≡ 0) × (now (table .exit) ≡ readTable (now (table .entry))) ⌝ }
+// Reads a job text into a table, as job::read does into its lows and highs.
+pub fn read(text: &[u8], table: &mut [Range]) -> Reading
+    ensures { λ r. ⌜ Filled (now (text .entry)) (lowsOf (now (table .entry))) (highsOf (now (table .entry))) (lowsOf (now (table .exit))) (highsOf (now (table .exit))) r ⌝ }
 {
     let reader = Reader::new(text);
     let before = take_bounds(table);
-    let called = reader.read_on(before);
-    put_bounds(table, called.bounds);
-    called.answer
+    let found = reader.read_on(before);
+    put_bounds(table, found.bounds);
+    found.answer
 }
