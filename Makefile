@@ -1,9 +1,10 @@
-# The planner's two commands, and the benchmark of docs/BENCHMARKS.md. See README.md.
+# The planner's commands. See README.md.
 .PHONY: run test bench
 
+JOB = examples/works.job
+
 run:
-	@tools/need rt
-	@echo "There is no program yet; crates/model has the proved model of one group."
+	@tools/run "$(JOB)"
 
 test:
 	@tools/gate

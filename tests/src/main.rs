@@ -4,6 +4,7 @@ use danivomel_tests::check::Checks;
 #[cfg(feature = "level")]
 use danivomel_tests::planner;
 use danivomel_tests::{independent, topics};
+use std::path::Path;
 use std::process::ExitCode;
 
 fn main() -> ExitCode {
@@ -13,6 +14,9 @@ fn main() -> ExitCode {
     independent_planner(&mut checks);
     #[cfg(feature = "level")]
     proved_planner(&mut checks);
+    if let Some(settle) = std::env::var_os("PLANNER_PROGRAM") {
+        topics::program::run(&mut checks, Path::new(&settle), Path::new("examples"));
+    }
     checks.end()
 }
 
