@@ -7,4 +7,5 @@ pub mod Printing
 pub mod Evenness
 pub mod Settled
 pub mod Texts
+pub mod Promises
 pub mod Known

@@ -1,6 +1,6 @@
 -- Printing the lines of a flat list's groups, one after another. Assumes nothing.
 use Prim.Native.Nat.{ℕ, zero, suc, _+_, _≤_, _<_}
-use mathlib.Core.List.{List, [], _∷_, flatten, List·Memᴰ·head, List·Memᴰ·tail}
+use mathlib.Core.List.{List, _∷_, flatten, List·Memᴰ·head, List·Memᴰ·tail}
 use mathlib.Core.Path.{_≡_, refl, ap, _∙_}
 use native.Mathlib.Numerals.{add-one}
 use native.Mathlib.Omega.{arith}
@@ -10,7 +10,7 @@ use Rattle.group.specs.Sound.{greatestCount}
 use Rattle.print.specs.Written.{Rest, Wrote, begin, next, done, Room}
 use Rattle.works.specs.Flat.{groupAt, afterFirst, groupsIn, Holds}
 use Rattle.works.specs.Laws.Members.{gather-length}
-use Rattle.works.specs.Tables.{Table, lowsOf, size}
+use Rattle.works.specs.Tables.{Table, size}
 use Rattle.report.specs.Ready.{Levelable, AllLevelable, Printable, Rooms, Workspace}
 use Rattle.report.specs.Reports.{lineOf, groupLines}
 

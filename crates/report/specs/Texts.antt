@@ -5,22 +5,21 @@ use mathlib.Core.Path.{_≡_, sym, ap, _∙_}
 use native.Mathlib.Omega.{arith}
 use borrow.Author.Tests.{le-leb, lt-leb}
 use lib.ListN.{length, take, drop}
-use Rattle.job.specs.Flat.{flatten}
-use Rattle.job.specs.Job.{Job, refusal, mostBytes, mostGroups, mostMemberships, memberships, readJob, accepted}
-use Rattle.job.specs.Reading.{Scanned, accepted-by, refused-by}
+use Rattle.job.specs.Job.{Job, refusal, mostBytes, readJob, accepted}
+use Rattle.job.specs.Reading.{Scanned, accepted-by}
 use Rattle.job.specs.Sound.{accepted-sound}
 use Rattle.job.specs.declared.Reading.{Reading}
 use Rattle.job.specs.declared.Reading.the-variants.{Read}
 use Rattle.job.specs.declared.Reading.the-variants as job
 use Rattle.model.specs.Groups.{Group}
 use Rattle.model.specs.declared.Refusal.{Refusal}
-use Rattle.works.specs.Calls.{Settlement, settlement, settleJob, settleText}
+use Rattle.works.specs.Calls.{Settlement, settlement, settleJob}
 use Rattle.works.specs.Flat.{groupsIn}
 use Rattle.works.specs.Laws.Accepted.{read-settles, refused-settles}
 use Rattle.works.specs.Laws.Flat.{flatten-groups}
 use Rattle.works.specs.Tables.{tableOf}
 use Rattle.works.specs.declared.Settling.the-variants as works
-use Rattle.report.specs.Calls.{reported, reportSettled, reportText, jobOf}
+use Rattle.report.specs.Calls.{reported, reportSettled, reportText}
 use Rattle.report.specs.Ready.{WithinLimits}
 use Rattle.report.specs.Reports.{reportOf}
 use Rattle.report.specs.declared.Reporting.the-variants.{Written, NoPlan, Refused}

@@ -1,15 +1,14 @@
 -- The lines of the groups after the number-th are left to be written. Assumes nothing.
 use borrow.Author.Needs.{needs}
 use mathlib.Core.List.{List}
-use mathlib.Core.Path.{_≡_, refl, sym, subst}
+use mathlib.Core.Path.{_≡_, refl}
 use native.Mathlib.Omega.{arith}
 use Prim.Native.Nat.{ℕ, _+_, _-_, _≤_, _<_}
 use lib.ListN.{length, getD, take, drop}
 use Rattle.print.specs.Written.{room-next, keeps-length}
-use Rattle.works.specs.Flat.{groupAt}
 use Rattle.works.specs.Laws.Parts.{from-part}
 use Rattle.works.specs.Tables.{Table, tableOf}
-use Rattle.report.specs.Ready.{Levelable, Workspace}
+use Rattle.report.specs.Ready.{Workspace}
 use Rattle.report.specs.Printing.{Printing, Next, printing-start, printing-end, printing-next, next-within, next-printing}
 use Rattle.report.proofs.groups.put_group_lines.Statement.{statement}
 use Rattle.report.proofs.groups.put_group_lines.Tie as tie

@@ -2,17 +2,13 @@
 use borrow.Author.Needs.{needs}
 use native.Mathlib.Omega.{arith}
 use Prim.Native.Nat.{ℕ}
-use mathlib.Core.Bool.{true}
 use mathlib.Core.List.{List, _++_}
-use mathlib.Core.Path.{_≡_, refl, sym, ap, _∙_}
+use mathlib.Core.Path.{_≡_, _∙_}
 use borrow.Author.Tests.{le-leb}
-use lib.Dec.{leb}
 use lib.ListN.{length, take, drop, length-take}
 use lib.Seq.{take-at}
-use Rattle.model.specs.Shares.{sum}
 use Rattle.model.specs.Figures.{deviation, spread}
 use Rattle.model.specs.Levels.{level, levelled}
-use Rattle.model.specs.Plans.{hasShares}
 use Rattle.model.specs.declared.Deviation.{Deviation}
 use Rattle.model.specs.declared.Refusal.{Refusal}
 use Rattle.model.specs.declared.Share.{Share}
@@ -21,7 +17,6 @@ use Rattle.group.specs.Sound.{HasShares, levelled-length}
 use Rattle.group.specs.Levelling.{levelledTo, planAfter}
 use Rattle.group.specs.declared.Levelling.{Levelling}
 use Rattle.group.specs.declared.Levelling.the-variants.{Levelled, Refused}
-use Rattle.print.specs.Written.{Room, Wrote}
 use Rattle.report.specs.Lines.{groupLine}
 use Rattle.report.specs.Reports.{levelledLine}
 use Rattle.report.proofs.groups.put_levelled_line.Statement.{statement}
