@@ -69,7 +69,7 @@ pub fn settle_job(
 }
 
 // Settles a job text by way of lists that hold every job.
-pub fn settle_by(
+fn settle_by(
     text: &[u8],
     lows: &mut [u64],
     highs: &mut [u64],
@@ -93,4 +93,22 @@ pub fn settle_by(
         ),
         Reading::Refused(refusal) => Settling::Refused(refusal),
     }
+}
+
+// Settles a job text over a table: takes the groups from the text, and opens with the ranges that the table holds.
+pub fn settle(text: &[u8], lows: &mut [u64], highs: &mut [u64], scratch: &mut [u64]) -> Settling
+    ensures { λ r. ⌜ settlement r (now (lows .exit)) (now (highs .exit)) ≡ settleText (now (text .entry)) (now (lows .entry)) (now (highs .entry)) (length (now (scratch .entry))) ⌝ }
+{
+    let mut found_lows = [0u64; 256];
+    let mut found_highs = [0u64; 256];
+    let mut flat = [0u64; 4352];
+    settle_by(
+        text,
+        lows,
+        highs,
+        scratch,
+        &mut found_lows,
+        &mut found_highs,
+        &mut flat,
+    )
 }
