@@ -1,10 +1,12 @@
 //! What the planner's calls take and answer, in the specification's words.
 
 /// n·D of document 001: the sum of |n × share − total|.
+#[repr(C)]
 #[derive(Clone, Copy, Debug, PartialEq, Eq, PartialOrd, Ord)]
 pub struct Deviation(pub u64);
 
 /// n times the squared deviation of document 002: n × (sum of squared shares) − total × total.
+#[repr(C)]
 #[derive(Clone, Copy, Debug, PartialEq, Eq, PartialOrd, Ord)]
 pub struct Spread(pub u64);
 
@@ -43,6 +45,7 @@ impl Limits {
 }
 
 /// A refusal: its number in the specification, and its place.
+#[repr(C)]
 #[derive(Clone, Copy, Debug, PartialEq, Eq)]
 pub struct Refusal {
     pub number: u64,

@@ -6,6 +6,8 @@ pub mod cases;
 pub mod check;
 pub mod enumerate;
 pub mod independent;
+#[cfg(feature = "level")]
+pub mod planner;
 pub mod random;
 pub mod rebuild;
 pub mod topics;

@@ -1,7 +1,10 @@
 //! Runs all tests. An argument is the seed that the topics draw theirs from.
 
 use danivomel_tests::check::Checks;
+#[cfg(feature = "level")]
+use danivomel_tests::planner;
 use danivomel_tests::{independent, topics};
+use std::path::Path;
 use std::process::ExitCode;
 
 fn main() -> ExitCode {
@@ -9,6 +12,11 @@ fn main() -> ExitCode {
     println!("seed {seed}");
     let mut checks = Checks::new(seed);
     independent_planner(&mut checks);
+    #[cfg(feature = "level")]
+    proved_planner(&mut checks);
+    if let Some(settle) = std::env::var_os("PLANNER_PROGRAM") {
+        topics::program::run(&mut checks, Path::new(&settle), Path::new("examples"));
+    }
     checks.end()
 }
 
@@ -28,4 +36,39 @@ fn independent_planner(checks: &mut Checks) {
     topics::calls::run_settle(checks, who, independent::settle);
     topics::report::run(checks, who, independent::report);
     topics::calls::run_report(checks, who, independent::report);
+}
+
+/// The proved planner against brute force and against the independent planner.
+#[cfg(feature = "level")]
+fn proved_planner(checks: &mut Checks) {
+    let who = "planner";
+    topics::level::run(checks, who, planner::level);
+    topics::level::compare(checks, who, planner::level);
+    topics::lists::run_level(checks, who, planner::level);
+    #[cfg(feature = "narrow")]
+    {
+        topics::narrow::run(checks, who, planner::narrow);
+        topics::narrow::compare(checks, who, planner::narrow);
+        topics::lists::run_narrow(checks, who, planner::narrow);
+    }
+    #[cfg(feature = "read")]
+    {
+        topics::read::run(checks, who, planner::read);
+        topics::read::compare(checks, who, planner::read);
+        topics::lines::run(checks, who, planner::read);
+        topics::calls::run_read(checks, who, planner::read);
+    }
+    #[cfg(feature = "settle")]
+    {
+        topics::settle::run(checks, who, planner::settle);
+        topics::settle::compare(checks, who, planner::settle);
+        topics::tables::run(checks, who, planner::settle);
+        topics::calls::run_settle(checks, who, planner::settle);
+    }
+    #[cfg(feature = "report")]
+    {
+        topics::report::run(checks, who, planner::report);
+        topics::report::compare(checks, who, planner::report);
+        topics::calls::run_report(checks, who, planner::report);
+    }
 }

@@ -1,3 +1,4 @@
+pub mod Words
 pub mod Kinds
 pub mod Parsed
 pub mod Numbers

@@ -13,7 +13,7 @@ pub fn fault<Call>(number: u64, place: u64, apply: fn(&mut Call)) -> Fault<Call>
     Fault { refusal: Refusal { number, place }, apply }
 }
 
-/// Tries every set of faults but the empty one. The faults stand in the order in which they are looked for. They are
+/// Tries every set of faults but the empty one. The faults come in the order in which they are looked for. They are
 /// put in from the last to the first, so that the first is there for sure, and its refusal is the one expected.
 pub fn each_combination<Call: Clone>(sound: &Call, faults: &[Fault<Call>], mut attempt: impl FnMut(&Call, Refusal)) {
     for set in 1u32..1 << faults.len() {

@@ -17,7 +17,7 @@ fn has(set: u32, fault: u32) -> bool {
     set >> fault & 1 == 1
 }
 
-/// The lowest refusal of a set, whose faults stand in rising order.
+/// The lowest refusal of a set, whose faults are in rising order.
 fn lowest(set: u32, numbers: &[u64]) -> u64 {
     numbers[set.trailing_zeros() as usize]
 }

@@ -6,7 +6,7 @@ use Prim.Native.Nat.{_+_, _-_, _≤_}
 use lib.ListN.{length, drop, drop-of-length-le}
 use Rattle.model.specs.Shares.{sum}
 use Rattle.model.specs.Levels.{totalAt, clamped}
-use Rattle.model.specs.Laws.Lists.{ranges-length}
+use Rattle.model.specs.Laws.Lists.{ranges-at}
 use Rattle.model.specs.Laws.Walk.{totalAt-walk}
 use Rattle.group.specs.Sound.{totalAt-small}
 use Rattle.group.proofs.shares.total_at.Statement.{statement}
@@ -34,14 +34,21 @@ shared-slice-read-clamp-2 : tie.Need-shared-slice-read-clamp-2 Inv-loop μ-loop
 shared-slice-read-clamp-2 c = search needs
 
 clamp-requires : tie.Need-clamp-requires Inv-loop μ-loop
-clamp-requires c κs = search needs
+clamp-requires c κs =
+    let turn = c .before .before .before in
+    ranges-at (turn .before .before .before .pre .ranges) (turn .loop .i) (omega arith) .0
 
 -- the function's start, seen from the loop's end
 abbrev start : tie.After-clamp Inv-loop μ-loop → tie.Start Inv-loop μ-loop
 start c = c .before .before .before .before .before .before .before
 
 loop-again : tie.Need-loop-again Inv-loop μ-loop
-loop-again c = omega (arith, totalAt-walk (start c .args .lows .now) (start c .args .highs .now) (c .before .before .before .before .loop .i) (omega arith) (omega arith) (start c .args .v))
+loop-again c =
+    omega (
+      arith,
+      totalAt-walk (start c .args .lows .now) (start c .args .highs .now) (c .before .before .before .before .loop .i) (omega arith)
+          (omega arith) (start c .args .v),
+    )
 
 add-total : tie.Need-add-total Inv-loop μ-loop
 add-total c = omega (arith, loop-again c .1, totalAt-small (start c .pre) (start c .args .v))

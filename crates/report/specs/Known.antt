@@ -1,0 +1,38 @@
+-- 01's report of its example job, computed. Assumes nothing.
+use Prim.Native.Nat.{ℕ}
+use mathlib.Core.List.{List, [], _∷_, flatten, map}
+use mathlib.Core.Path.{_≡_, refl}
+use Rattle.model.specs.Shares.{sum, sumOf}
+use Rattle.model.specs.Figures.{deviation, spread}
+use Rattle.model.specs.Levels.{clamped, totalAt, levelBelow, level, topped, remainder, levelled}
+use Rattle.text.specs.Words.{bytes}
+use Rattle.text.specs.Numbers.{digitsOf, printNumber}
+use Rattle.print.specs.Items.{item, items, form, line}
+use Rattle.model.specs.Known.{sameList}
+use Rattle.model.specs.Plans.{hasPlan, turnOf, firstUp, firstDown, narrowedLow, narrowedHigh, tabulate, narrowedLows, narrowedHighs}
+use Rattle.works.specs.Tables.{widths, gather, scatter}
+use Rattle.works.specs.Settling.{narrowed, revise, passFrom, settleFrom, settle}
+use Rattle.works.specs.Known.{example, exampleTable}
+use Rattle.report.specs.Lines.{settledLine, unitLine, groupLine, refusalLine}
+use Rattle.report.specs.Reports.{unitLines, levelledLine, groupLines, reportOf, printed}
+
+-- 01: "For the job above, whole"
+unfoldable pub exampleReport : List ℕ
+exampleReport =
+    flatten
+    (bytes "(settled 3)\n"
+    ∷ bytes "(unit 1 5 6)\n"
+    ∷ bytes "(unit 2 4 5)\n"
+    ∷ bytes "(unit 3 3 4)\n"
+    ∷ bytes "(group 1 5 0 0 (plan 5 5))\n"
+    ∷ bytes "(group 2 4 0 0 (plan 4 4))\n"
+    ∷ [])
+
+pub example-report : printed example (settle example exampleTable) ≡ exampleReport
+unfolding printed reportOf groupLines levelledLine unitLines groupLine line form items item flatten printNumber digitsOf exampleReport example exampleTable settle settleFrom passFrom revise narrowed widths gather scatter sameList sum sumOf deviation spread clamped totalAt levelBelow level topped remainder levelled hasPlan turnOf firstUp firstDown narrowedLow narrowedHigh tabulate narrowedLows narrowedHighs
+example-report = refl
+
+-- 01: "A refusal prints one line"
+pub example-refusal : refusalLine 12 1 ≡ bytes "(refused 12 1)\n"
+unfolding line form items item flatten printNumber digitsOf
+example-refusal = refl

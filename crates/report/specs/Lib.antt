@@ -1,0 +1,11 @@
+pub mod Lines
+pub mod Reports
+pub mod Calls
+pub mod Ready
+pub mod Lengths
+pub mod Printing
+pub mod Evenness
+pub mod Settled
+pub mod Texts
+pub mod Promises
+pub mod Known

@@ -1,0 +1,24 @@
+-- The lines of a report. Assumes nothing.
+use Prim.Native.Nat.{ℕ}
+use mathlib.Core.List.{List, [], _∷_, flatten}
+use Rattle.model.specs.declared.Deviation.{Deviation}
+use Rattle.model.specs.declared.Spread.{Spread}
+use Rattle.text.specs.Words.{bytes}
+use Rattle.print.specs.Items.{form, line}
+
+-- 01: "(settled 3)": the passes
+abbrev pub settledLine : ℕ → List ℕ
+settledLine passes = line (bytes "(settled") (passes ∷ [])
+
+-- 01: "(unit 1 5 6)": "unit number, low, high"
+abbrev pub unitLine : ℕ → ℕ → ℕ → List ℕ
+unitLine number low high = line (bytes "(unit") (number ∷ low ∷ high ∷ [])
+
+-- 01: "(group 1 5 0 0 (plan 5 5))": "group number, level, deviation, spread, levelled shares"
+unfoldable pub groupLine : ℕ → ℕ → Deviation → Spread → List ℕ → List ℕ
+groupLine number level deviation spread shares =
+    flatten (form (bytes "(group") (number ∷ level ∷ deviation .0 ∷ spread .0 ∷ []) ∷ form (bytes " (plan") shares ∷ bytes "))\n" ∷ [])
+
+-- 01: "(refused 12 1)": "number, place"
+abbrev pub refusalLine : ℕ → ℕ → List ℕ
+refusalLine number place = line (bytes "(refused") (number ∷ place ∷ [])

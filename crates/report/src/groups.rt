@@ -1,0 +1,147 @@
+// The group lines of a report: each group levelled within the settled table.
+use crate::lines::put_group_line;
+use group::Levelling;
+use group::level_core;
+use works::members::gather;
+ghost use Prim.Native.Nat.{_+_, _≤_};
+ghost use mathlib.Core.List.{flatten};
+ghost use mathlib.Core.Path.{_≡_};
+ghost use lib.ListN.{length, getD};
+ghost use Rattle.group.specs.Sound.{HasShares};
+ghost use Rattle.print.specs.Written.{Room, Wrote};
+ghost use Rattle.report.specs.Ready.{Levelable, Workspace, Rooms, Printable};
+ghost use Rattle.report.specs.Reports.{levelledLine, lineOf, groupLines};
+ghost use Rattle.works.specs.Flat.{groupAt, groupsIn};
+ghost use Rattle.works.specs.Tables.{Named, gather, tableOf};
+
+// Levels a group and writes its line; the plan is room for its shares. Hands back the index after the line.
+fn put_levelled_line(
+    buffer: &mut [u8],
+    at: usize,
+    number: u64,
+    lows: &[u64],
+    highs: &[u64],
+    total: u64,
+    plan: &mut [u64],
+) -> usize
+    requires { ⌜ HasShares (now lows) (now highs) total ⌝ }
+    requires { ⌜ length (now lows) ≤ length (now plan) ⌝ }
+    requires { ⌜ Room (now buffer) at (levelledLine number (now lows) (now highs) total) ⌝ }
+    ensures { λ r. ⌜ Wrote (levelledLine number (now (lows .entry)) (now (highs .entry)) total) (now (buffer .entry)) at (now (buffer .exit)) r ⌝ }
+{
+    let Levelling::Levelled {
+        level,
+        deviation,
+        spread,
+    } = level_core(lows, highs, total, plan)
+    else {
+        return at;
+    };
+    let count = lows.len();
+    put_group_line(
+        buffer,
+        at,
+        number,
+        level.copies(),
+        deviation,
+        spread,
+        &plan[..count],
+    )
+}
+
+// Gathers the members' ranges and writes the line of their group, and hands back the index after it.
+fn put_members_line(
+    buffer: &mut [u8],
+    at: usize,
+    number: u64,
+    members: &[u64],
+    total: u64,
+    lows: &[u64],
+    highs: &[u64],
+    member_lows: &mut [u64],
+    member_highs: &mut [u64],
+    plan: &mut [u64],
+) -> usize
+    requires { ⌜ Named (length (now lows)) (now members) × Named (length (now highs)) (now members) ⌝ }
+    requires { ⌜ HasShares (gather (now lows) (now members)) (gather (now highs) (now members)) total ⌝ }
+    requires { ⌜ Rooms (length (now members)) (now «member_lows») (now «member_highs») (now plan) ⌝ }
+    requires { ⌜ Room (now buffer) at (levelledLine number (gather (now lows) (now members)) (gather (now highs) (now members)) total) ⌝ }
+    ensures { λ r. ⌜ Wrote (levelledLine number (gather (now (lows .entry)) (now (members .entry))) (gather (now (highs .entry)) (now (members .entry))) total) (now (buffer .entry)) at (now (buffer .exit)) r ⌝ }
+{
+    gather(lows, members, member_lows);
+    gather(highs, members, member_highs);
+    put_levelled_line(buffer, at, number, member_lows, member_highs, total, plan)
+}
+
+// Writes the line of the group at the start of a flat list, and hands back the index after it.
+fn put_first_line(
+    buffer: &mut [u8],
+    at: usize,
+    number: u64,
+    group: &[u64],
+    lows: &[u64],
+    highs: &[u64],
+    member_lows: &mut [u64],
+    member_highs: &mut [u64],
+    plan: &mut [u64],
+) -> usize
+    requires { ⌜ Levelable (tableOf (now lows) (now highs)) (groupAt (now group)) ⌝ }
+    requires { ⌜ length (now highs) ≡ length (now lows) ⌝ }
+    requires { ⌜ 4 + getD (now group) 3 0 ≤ length (now group) ⌝ }
+    requires { ⌜ Workspace (now «member_lows») (now «member_highs») (now plan) ⌝ }
+    requires { ⌜ Room (now buffer) at (lineOf number (tableOf (now lows) (now highs)) (groupAt (now group))) ⌝ }
+    ensures { λ r. ⌜ Wrote (lineOf number (tableOf (now (lows .entry)) (now (highs .entry))) (groupAt (now (group .entry)))) (now (buffer .entry)) at (now (buffer .exit)) r ⌝ }
+{
+    let count = group[3] as usize;
+    let end = 4 + count;
+    put_members_line(
+        buffer,
+        at,
+        number,
+        &group[4..end],
+        group[0],
+        lows,
+        highs,
+        &mut member_lows[..count],
+        &mut member_highs[..count],
+        plan,
+    )
+}
+
+// Writes the lines of a flat list's groups, and hands back the index after them.
+pub fn put_group_lines(
+    buffer: &mut [u8],
+    at: usize,
+    flat: &[u64],
+    groups: u64,
+    lows: &[u64],
+    highs: &[u64],
+    member_lows: &mut [u64],
+    member_highs: &mut [u64],
+    plan: &mut [u64],
+) -> usize
+    requires { ⌜ Printable (now flat) groups (tableOf (now lows) (now highs)) ⌝ }
+    requires { ⌜ Workspace (now «member_lows») (now «member_highs») (now plan) ⌝ }
+    requires { ⌜ Room (now buffer) at (flatten (groupLines 1 (tableOf (now lows) (now highs)) (groupsIn groups (now flat)))) ⌝ }
+    ensures { λ r. ⌜ Wrote (flatten (groupLines 1 (tableOf (now (lows .entry)) (now (highs .entry))) (groupsIn groups (now (flat .entry))))) (now (buffer .entry)) at (now (buffer .exit)) r ⌝ }
+{
+    let mut next = at;
+    let mut from: usize = 0;
+    let mut number: u64 = 0;
+    while number < groups {
+        number += 1;
+        next = put_first_line(
+            buffer,
+            next,
+            number,
+            &flat[from..],
+            lows,
+            highs,
+            member_lows,
+            member_highs,
+            plan,
+        );
+        from += 4 + flat[from + 3] as usize;
+    }
+    next
+}
