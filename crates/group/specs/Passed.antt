@@ -73,7 +73,8 @@ sized-of count other room held =
       fits = leb-true _ _ (both-right (leb count greatestCount) _ third);
     }
 
-refuse-passed : (b : Bool) (number place : ℕ) (next : Check) → refuseIf b number place next ≡ Passed → (b ≡ false) × (next ≡ Passed)
+-- a check that passes refuses nothing, and what comes after it passes
+pub refuse-passed : (b : Bool) (number place : ℕ) (next : Check) → refuseIf b number place next ≡ Passed → (b ≡ false) × (next ≡ Passed)
 refuse-passed true number place next e = (cc, cc)
 refuse-passed false number place next e = (refl, e)
 
