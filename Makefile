@@ -1,9 +1,13 @@
-# The planner's two commands. See README.md.
-.PHONY: run test
+# The planner's commands. See README.md.
+.PHONY: run test bench
+
+JOB = examples/works.job
 
 run:
-	@tools/need rt
-	@echo "There is no program yet; crates/model has the proved model of one group."
+	@tools/run "$(JOB)"
 
 test:
 	@tools/gate
+
+bench:
+	@bench/run

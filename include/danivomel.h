@@ -96,6 +96,60 @@ danivomel_refusal danivomel_narrow(
     uint64_t total,
     danivomel_limits limits);
 
+/* What reading a job text answers. On a refusal both counts are 0. */
+typedef struct {
+    danivomel_refusal refusal;
+    size_t units;
+    size_t groups;
+} danivomel_counts;
+
+/*
+ * Reads a job text into a table: afterwards lows and highs begin with the ranges of the unit lines.
+ * Refuses, in this order: 2; the first bad line with the lowest of 3 to 9; 10; 1 for lows or highs shorter than the
+ * units.
+ */
+danivomel_counts danivomel_read(
+    const uint8_t *text, size_t text_count,
+    uint64_t *lows, size_t lows_count,
+    uint64_t *highs, size_t highs_count);
+
+/* What settling answers: the passes, the quiet or refusing one counted; 0 where it is refused ahead of the first. */
+typedef struct {
+    danivomel_refusal refusal;
+    uint64_t passes;
+} danivomel_settled;
+
+/*
+ * Settles a table under the groups of a job text: opens with the ranges that lows and highs hold, and leaves the
+ * greatest ranges inside them in which each value is taken, in each of its unit's groups, by a plan drawn from them.
+ * The scratch has 8 numbers a unit; what it held changes nothing, and it holds anything afterwards.
+ * Refuses, in this order: as reading up to 10; 1 for lows, highs or scratch too short for the units; 4, then 7 for the
+ * ranges, place the first such unit; 11 and 12, place the group, where no such ranges exist.
+ */
+danivomel_settled danivomel_settle(
+    const uint8_t *text, size_t text_count,
+    uint64_t *lows, size_t lows_count,
+    uint64_t *highs, size_t highs_count,
+    uint64_t *scratch, size_t scratch_count);
+
+/* What reporting answers: the report's length, or a refusal, with the passes for 11 and 12. */
+typedef struct {
+    danivomel_refusal refusal;
+    uint64_t passes;
+    size_t length;
+} danivomel_reported;
+
+/*
+ * Settles as danivomel_settle does and writes the report to the start of the buffer, which has at least 65,536 bytes.
+ * Refuses 1 for a shorter buffer first, then as settling; the buffer is then as it was.
+ */
+danivomel_reported danivomel_report(
+    const uint8_t *text, size_t text_count,
+    uint64_t *lows, size_t lows_count,
+    uint64_t *highs, size_t highs_count,
+    uint64_t *scratch, size_t scratch_count,
+    uint8_t *buffer, size_t buffer_count);
+
 #ifdef __cplusplus
 }
 #endif

@@ -4,6 +4,7 @@ use danivomel_tests::check::Checks;
 #[cfg(feature = "level")]
 use danivomel_tests::planner;
 use danivomel_tests::{independent, topics};
+use std::path::Path;
 use std::process::ExitCode;
 
 fn main() -> ExitCode {
@@ -13,6 +14,9 @@ fn main() -> ExitCode {
     independent_planner(&mut checks);
     #[cfg(feature = "level")]
     proved_planner(&mut checks);
+    if let Some(settle) = std::env::var_os("PLANNER_PROGRAM") {
+        topics::program::run(&mut checks, Path::new(&settle), Path::new("examples"));
+    }
     checks.end()
 }
 
@@ -46,5 +50,25 @@ fn proved_planner(checks: &mut Checks) {
         topics::narrow::run(checks, who, planner::narrow);
         topics::narrow::compare(checks, who, planner::narrow);
         topics::lists::run_narrow(checks, who, planner::narrow);
+    }
+    #[cfg(feature = "read")]
+    {
+        topics::read::run(checks, who, planner::read);
+        topics::read::compare(checks, who, planner::read);
+        topics::lines::run(checks, who, planner::read);
+        topics::calls::run_read(checks, who, planner::read);
+    }
+    #[cfg(feature = "settle")]
+    {
+        topics::settle::run(checks, who, planner::settle);
+        topics::settle::compare(checks, who, planner::settle);
+        topics::tables::run(checks, who, planner::settle);
+        topics::calls::run_settle(checks, who, planner::settle);
+    }
+    #[cfg(feature = "report")]
+    {
+        topics::report::run(checks, who, planner::report);
+        topics::report::compare(checks, who, planner::report);
+        topics::calls::run_report(checks, who, planner::report);
     }
 }

@@ -2,7 +2,11 @@
 //! Every call takes any lists and numbers, and refuses what the specification does not allow; a refusal changes no
 //! list.
 
+#[cfg(feature = "read")]
+use crate::answers::Counts;
 use crate::answers::{Deviation, Levelled, Refusal, Spread};
+#[cfg(feature = "settle")]
+use crate::answers::Unsettled;
 #[cfg(feature = "narrow")]
 use crate::answers::{Limit, Limits};
 
@@ -31,6 +35,32 @@ struct ForeignLimits {
     spread: ForeignLimit,
 }
 
+/// What reading answers across the border.
+#[cfg(feature = "read")]
+#[repr(C)]
+struct ForeignRead {
+    refusal: Refusal,
+    units: usize,
+    groups: usize,
+}
+
+/// What settling answers across the border.
+#[cfg(feature = "settle")]
+#[repr(C)]
+struct ForeignSettled {
+    refusal: Refusal,
+    passes: u64,
+}
+
+/// What reporting answers across the border.
+#[cfg(feature = "report")]
+#[repr(C)]
+struct ForeignReport {
+    refusal: Refusal,
+    passes: u64,
+    length: usize,
+}
+
 extern "C" {
     fn danivomel_level(
         lows: *const u64,
@@ -51,6 +81,42 @@ extern "C" {
         total: u64,
         limits: ForeignLimits,
     ) -> Refusal;
+
+    #[cfg(feature = "read")]
+    fn danivomel_read(
+        text: *const u8,
+        text_count: usize,
+        lows: *mut u64,
+        lows_count: usize,
+        highs: *mut u64,
+        highs_count: usize,
+    ) -> ForeignRead;
+
+    #[cfg(feature = "settle")]
+    fn danivomel_settle(
+        text: *const u8,
+        text_count: usize,
+        lows: *mut u64,
+        lows_count: usize,
+        highs: *mut u64,
+        highs_count: usize,
+        scratch: *mut u64,
+        scratch_count: usize,
+    ) -> ForeignSettled;
+
+    #[cfg(feature = "report")]
+    fn danivomel_report(
+        text: *const u8,
+        text_count: usize,
+        lows: *mut u64,
+        lows_count: usize,
+        highs: *mut u64,
+        highs_count: usize,
+        scratch: *mut u64,
+        scratch_count: usize,
+        buffer: *mut u8,
+        buffer_count: usize,
+    ) -> ForeignReport;
 }
 
 /// A refusal as an error, and number 0 as none.
@@ -109,4 +175,87 @@ fn across(limit: Limit) -> ForeignLimit {
         Limit::Any => ForeignLimit { any: true, at_most: 0 },
         Limit::AtMost(at_most) => ForeignLimit { any: false, at_most },
     }
+}
+
+/// Reads a job text into a table: lows and highs then begin with the ranges of the unit lines.
+///
+/// Refuses 2 for a text over 65,536 bytes; 3 to 9 at the first bad line; 10 for no unit line; 1 for a table shorter
+/// than the units.
+///
+/// ```
+/// use danivomel_tests::planner::read;
+/// let (mut lows, mut highs) = ([9; 3], [9; 3]);
+/// let counts = read(b"(unit 0 5)\n(unit 1 4)\n", &mut lows, &mut highs).unwrap();
+/// assert_eq!((counts.units, lows, highs), (2, [0, 1, 9], [5, 4, 9]));
+/// ```
+#[cfg(feature = "read")]
+pub fn read(text: &[u8], lows: &mut [u64], highs: &mut [u64]) -> Result<Counts, Refusal> {
+    // SAFETY: each pointer and count is a slice's, and the slices do not overlap, since two are borrowed mutably.
+    let answer = unsafe {
+        danivomel_read(text.as_ptr(), text.len(), lows.as_mut_ptr(), lows.len(), highs.as_mut_ptr(), highs.len())
+    };
+    accepted(answer.refusal)?;
+    Ok(Counts { units: answer.units as u64, groups: answer.groups as u64 })
+}
+
+/// Settles a table under the groups of a job text: opens with the ranges that lows and highs hold, narrows them until
+/// nothing moves, and answers the passes. The scratch has 8 numbers a unit.
+///
+/// Refuses as reading does up to 10; 1 for a table or scratch too short for the units; 4, then 7 for the ranges; 11 and
+/// 12 where no table inside the opening one is at rest.
+///
+/// ```
+/// use danivomel_tests::planner::settle;
+/// let job = b"(unit 0 10)\n(unit 0 10)\n(group 10 (dev 4) (spread any) (of 1 2))\n";
+/// let (mut lows, mut highs) = ([0, 0], [10, 10]);
+/// assert_eq!(settle(job, &mut lows, &mut highs, &mut [0; 16]), Ok(2));
+/// assert_eq!((lows, highs), ([4, 4], [6, 6]));
+/// ```
+#[cfg(feature = "settle")]
+pub fn settle(text: &[u8], lows: &mut [u64], highs: &mut [u64], scratch: &mut [u64]) -> Result<u64, Unsettled> {
+    // SAFETY: each pointer and count is a slice's, and the slices do not overlap, since three are borrowed mutably.
+    let answer = unsafe {
+        danivomel_settle(
+            text.as_ptr(),
+            text.len(),
+            lows.as_mut_ptr(),
+            lows.len(),
+            highs.as_mut_ptr(),
+            highs.len(),
+            scratch.as_mut_ptr(),
+            scratch.len(),
+        )
+    };
+    accepted(answer.refusal).map_err(|refusal| Unsettled { refusal, passes: answer.passes })?;
+    Ok(answer.passes)
+}
+
+/// Settles as [`settle`] does and writes the report to the start of the buffer; answers its length.
+///
+/// Refuses 1 for a buffer under 65,536 bytes first, then as settling.
+#[cfg(feature = "report")]
+pub fn report(
+    text: &[u8],
+    lows: &mut [u64],
+    highs: &mut [u64],
+    scratch: &mut [u64],
+    buffer: &mut [u8],
+) -> Result<u64, Unsettled> {
+    // SAFETY: each pointer and count is a slice's, and the slices do not overlap, since four are borrowed mutably.
+    let answer = unsafe {
+        danivomel_report(
+            text.as_ptr(),
+            text.len(),
+            lows.as_mut_ptr(),
+            lows.len(),
+            highs.as_mut_ptr(),
+            highs.len(),
+            scratch.as_mut_ptr(),
+            scratch.len(),
+            buffer.as_mut_ptr(),
+            buffer.len(),
+        )
+    };
+    accepted(answer.refusal).map_err(|refusal| Unsettled { refusal, passes: answer.passes })?;
+    Ok(answer.length as u64)
 }

@@ -6,8 +6,8 @@ use native.Mathlib.Nat.{mul-le-mul}
 use native.Mathlib.Omega.{arith}
 use lib.ListN.{length, getD}
 use Rattle.model.specs.Shares.{Within, greatestShare, sum, sumOf}
-use Rattle.model.specs.Figures.{apart, deviation, spread}
-use Rattle.model.specs.Levels.{clamp, growth, topped}
+use Rattle.model.specs.Figures.{apart, deviation}
+use Rattle.model.specs.Levels.{clamp, growth}
 use Rattle.model.specs.Laws.Lists.{within-at, within-length, ranges-at}
 use Rattle.model.specs.Laws.Level.{growth-step, clamp-at-most}
 use Rattle.model.specs.Laws.Levelled.{within-sum-high}

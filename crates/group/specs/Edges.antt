@@ -1,5 +1,6 @@
 -- The search for the end of a range of values that pass a test. Assumes nothing.
-use Prim.Native.Nat.{ℕ, _+_, _/_, _≤_, _<_}
+use Prim.Native.Nat.{ℕ, _≤_, _<_}
+use native.Mathlib.Decide.{decLt}
 use native.Mathlib.Omega.{arith}
 use mathlib.Core.Bool.{Bool, true, false}
 use mathlib.Core.List.{List}
@@ -7,9 +8,9 @@ use mathlib.Core.Path.{_≡_}
 use lib.ListN.{length, getD}
 use Rattle.model.specs.Shares.{greatestShare}
 use Rattle.model.specs.Figures.{apart}
-use Rattle.model.specs.Plans.{hasPlan, taken}
-use Rattle.group.specs.Sound.{Sound}
+use Rattle.model.specs.Plans.{taken}
 use Rattle.model.specs.declared.Limits.{Limits}
+use Rattle.group.specs.Tabled.{Tabled, HasPlan}
 
 -- outer fails the test and inner passes it; they lie between two values in that order
 pub record Straddle (test : ℕ → Bool) (outside inside outer inner : ℕ) : Type 0 where
@@ -39,46 +40,52 @@ pub data Reach (test : ℕ → Bool) (end inside : ℕ) : ℕ → Type 0 where
   whole : test end ≡ true → Reach test end inside end
   part : {r : ℕ} → test end ≡ false → Edge test end inside r → Reach test end inside r
 
--- member i of sound ranges
-pub record Member (lows highs : List ℕ) (i : ℕ) : Type 0 where
-  pub sound : Sound lows highs
-  pub here : i < length lows
-
 -- a way from a share that some plan gives member i to an end
-pub record Approach (lows highs : List ℕ) (total : ℕ) (limits : Limits) (i end share : ℕ) : Type 0 where
-  pub member : Member lows highs i
+pub record Approach (lows highs table : List ℕ) (total : ℕ) (limits : Limits) (i end share : ℕ) : Type 0 where
+  pub tabled : Tabled lows highs total table
+  pub here : i < length lows
   pub small : end ≤ greatestShare
   pub share-small : share ≤ greatestShare
   pub passes : taken lows highs total limits i share ≡ true
 
 -- member i of a group that has a plan, and a share in its range that some plan gives it
 pub record Planned (lows highs : List ℕ) (total : ℕ) (limits : Limits) (i share : ℕ) : Type 0 where
-  pub member : Member lows highs i
-  pub found : hasPlan lows highs total limits ≡ true
+  pub has : HasPlan lows highs total limits
+  pub here : i < length lows
   pub low : getD lows i 0 ≤ share
   pub high : share ≤ getD highs i 0
   pub passes : taken lows highs total limits i share ≡ true
 
-module _ (test : ℕ → Bool) (outside inside outer inner : ℕ) (held : Straddle test outside inside outer inner)
-    (far : 1 < apart outer inner) where
-  -- a middle value that passes takes inner's place
-  pub straddle-in : test ((outer + inner) / 2) ≡ true → Straddle test outside inside outer ((outer + inner) / 2)
+-- strictly between two values
+pub record Amid (outer inner middle : ℕ) : Type 0 where
+  pub rising : outer < inner → (outer < middle) × (middle < inner)
+  pub falling : inner < outer → (inner < middle) × (middle < outer)
+
+-- it is nearer to both than they are to each other, and no greater than both
+pub amid-nearer : {outer inner middle most : ℕ} → 1 < apart outer inner → outer ≤ most → inner ≤ most → Amid outer inner middle
+    → (apart outer middle < apart outer inner) × (apart middle inner < apart outer inner) × (middle ≤ most)
+amid-nearer {outer} {inner} far small-outer small-inner amid =
+    elim (decLt outer inner) [
+      | yes less ↦ let (after, before) = amid .rising less in (omega arith, omega arith, omega arith)
+      | no more ↦ let (after, before) = amid .falling (omega arith) in (omega arith, omega arith, omega arith)
+    ]
+
+module _ (test : ℕ → Bool) (outside inside outer inner middle : ℕ) (held : Straddle test outside inside outer inner)
+    (amid : Amid outer inner middle) where
+  -- a value between that passes takes inner's place
+  pub straddle-in : test middle ≡ true → Straddle test outside inside outer middle
   straddle-in passes = record {
     fails = held .fails;
     passes = passes;
-    rising = λ h. omega (arith, held .rising h);
-    falling = λ h. omega (arith, held .falling h);
+    rising = λ h. let (a, b, c) = held .rising h in omega (arith, amid .rising b);
+    falling = λ h. let (a, b, c) = held .falling h in omega (arith, amid .falling b);
   }
 
   -- and one that fails takes outer's
-  pub straddle-out : test ((outer + inner) / 2) ≡ false → Straddle test outside inside ((outer + inner) / 2) inner
+  pub straddle-out : test middle ≡ false → Straddle test outside inside middle inner
   straddle-out fails = record {
     fails = fails;
     passes = held .passes;
-    rising = λ h. omega (arith, held .rising h);
-    falling = λ h. omega (arith, held .falling h);
+    rising = λ h. let (a, b, c) = held .rising h in omega (arith, amid .rising b);
+    falling = λ h. let (a, b, c) = held .falling h in omega (arith, amid .falling b);
   }
-
--- what holds of two lists holds of lists that equal them
-pub over : (P : List ℕ → List ℕ → Type 0) {lows highs lows′ highs′ : List ℕ} → lows′ ≡ lows → highs′ ≡ highs → P lows highs → P lows′ highs′
-over P same-lows same-highs held = rw (same-lows, same-highs) held

@@ -5,37 +5,64 @@ use mathlib.Core.List.{List}
 use mathlib.Core.Logic.{_≢_}
 use mathlib.Core.Path.{_≡_, sym, ap, _∙_}
 use native.Mathlib.Omega.{arith}
-use lib.ListN.{getD}
-use Rattle.model.specs.Shares.{greatestShare}
+use lib.ListN.{length, getD}
+use Rattle.model.specs.Shares.{Within, greatestShare}
+use Rattle.model.specs.Levels.{levelled}
 use Rattle.model.specs.Plans.{taken, narrowedLow, narrowedHigh}
-use Rattle.model.specs.Laws.Ends.{low-unique, high-unique}
-use Rattle.model.specs.Laws.Lists.{ranges-at}
+use Rattle.model.specs.Laws.Ends.{levelled-taken, low-unique, high-unique}
+use Rattle.model.specs.Laws.Levelled.{levelled-within}
+use Rattle.model.specs.Laws.Lists.{ranges-at, within-at, within-length}
 use Rattle.model.specs.Laws.Tests.{clash}
 use Rattle.model.specs.declared.Limits.{Limits}
+use Rattle.group.specs.Tabled.{Tabled, HasPlan}
 use Rattle.group.specs.Edges.{Edge, Reach, Approach, Planned}
+
+-- a group that has a plan gives member i its levelled share by one
+pub levelled-planned : {lows highs : List ℕ} {total : ℕ} {limits : Limits} → HasPlan lows highs total limits → (i : ℕ) → i < length lows
+    → Planned lows highs total limits i (getD (levelled lows highs total) i 0)
+levelled-planned {lows} {highs} {total} {limits} has i below =
+    let within : Within lows highs (levelled lows highs total) = levelled-within (has .sound .ranges) total in
+    let range = within-at within i (omega (arith, within-length within)) in
+    record {
+      has = has;
+      here = below;
+      low = range .0;
+      high = range .1;
+      passes = levelled-taken (has .sound .ranges) total limits (has .found) i below;
+    }
 
 module _ {lows highs : List ℕ} {total : ℕ} {limits : Limits} {i share : ℕ} (planned : Planned lows highs total limits i share) where
   -- the member's range is one of shares
   range : (getD lows i 0 ≤ getD highs i 0) × (getD highs i 0 ≤ greatestShare)
-  range = ranges-at (planned .member .sound .ranges) i (planned .member .here)
+  range = ranges-at (planned .has .sound .ranges) i (planned .here)
 
   -- the ways from the share to the low and to the high
-  pub to-low : Approach lows highs total limits i (getD lows i 0) share
-  to-low = record { member = planned .member; small = omega (arith, range); share-small = omega (arith, range, planned .high); passes = planned .passes }
+  module _ {table : List ℕ} (tabled : Tabled lows highs total table) where
+    to-end : (end : ℕ) → end ≤ greatestShare → Approach lows highs table total limits i end share
+    to-end end small = record {
+      tabled = tabled;
+      here = planned .here;
+      small = small;
+      share-small = omega (arith, range, planned .high);
+      passes = planned .passes;
+    }
 
-  pub to-high : Approach lows highs total limits i (getD highs i 0) share
-  to-high = record { member = planned .member; small = range .1; share-small = omega (arith, range, planned .high); passes = planned .passes }
+    pub to-low : Approach lows highs table total limits i (getD lows i 0) share
+    to-low = to-end (getD lows i 0) (omega (arith, range))
+
+    pub to-high : Approach lows highs table total limits i (getD highs i 0) share
+    to-high = to-end (getD highs i 0) (range .1)
 
   -- a low that is taken stays
   low-stays : taken lows highs total limits i (getD lows i 0) ≡ true → getD lows i 0 ≡ narrowedLow lows highs total limits i
   low-stays passes =
-      sym (low-unique (planned .member .sound .ranges) total limits (planned .found) i (planned .member .here) (getD lows i 0) (omega arith) (range .0) passes
+      sym (low-unique (planned .has .sound .ranges) total limits (planned .has .found) i (planned .here) (getD lows i 0) (omega arith) (range .0) passes
       (λ w next low. absurd (omega arith)))
 
   -- a high that is taken stays
   high-stays : taken lows highs total limits i (getD highs i 0) ≡ true → getD highs i 0 ≡ narrowedHigh lows highs total limits i
   high-stays passes =
-      sym (high-unique (planned .member .sound .ranges) total limits (planned .found) i (planned .member .here) (getD highs i 0) (range .0) (omega arith) passes
+      sym (high-unique (planned .has .sound .ranges) total limits (planned .has .found) i (planned .here) (getD highs i 0) (range .0) (omega arith) passes
       (λ low. absurd (omega arith)))
 
   -- a value that is not taken is not the share
@@ -48,7 +75,7 @@ module _ {lows highs : List ℕ} {total : ℕ} {limits : Limits} {i share : ℕ}
   low-found fails r edge =
       let less : getD lows i 0 < share = omega (arith, planned .low, not-share (getD lows i 0) fails) in
       let place : (getD lows i 0 ≤ edge .outer) × (edge .outer < r) × (r ≤ share) = edge .straddle .rising less in
-      sym (low-unique (planned .member .sound .ranges) total limits (planned .found) i (planned .member .here) r (omega arith) (omega arith) (edge .straddle .passes)
+      sym (low-unique (planned .has .sound .ranges) total limits (planned .has .found) i (planned .here) r (omega arith) (omega arith) (edge .straddle .passes)
       (λ w next low.
       let same : w ≡ edge .outer = omega arith in
       rw same (edge .straddle .fails)))
@@ -60,7 +87,7 @@ module _ {lows highs : List ℕ} {total : ℕ} {limits : Limits} {i share : ℕ}
       let more : share < getD highs i 0 = omega (arith, planned .high, not-share (getD highs i 0) fails) in
       let place : (share ≤ r) × (r < edge .outer) × (edge .outer ≤ getD highs i 0) = edge .straddle .falling more in
       let next : suc r ≡ edge .outer = omega arith in
-      sym (high-unique (planned .member .sound .ranges) total limits (planned .found) i (planned .member .here) r (omega arith) (omega arith) (edge .straddle .passes)
+      sym (high-unique (planned .has .sound .ranges) total limits (planned .has .found) i (planned .here) r (omega arith) (omega arith) (edge .straddle .passes)
       (λ high. rw next (edge .straddle .fails)))
 
   -- what the search toward the low reaches is the narrowed low

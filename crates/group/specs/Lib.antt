@@ -4,7 +4,7 @@ pub mod Figures
 pub mod Checks
 pub mod Levelling
 pub mod Passed
+pub mod Tabled
 pub mod Edges
 pub mod Ends
-pub mod Partly
 pub mod Narrowing

@@ -8,7 +8,7 @@ use native.Mathlib.Numerals.{add-one}
 use native.Mathlib.Omega.{arith}
 use lib.ListN.{length, getD, drop, drop-of-length-le}
 use lib.Seq.{drop-cons}
-use Rattle.model.specs.Shares.{pick, greatestShare}
+use Rattle.model.specs.Shares.{pick, greatestShare, Ranges}
 use Rattle.group.specs.Checks.{firstFailing, areShares, firstBeyond, firstCrossed, sized, refuseIf, checkLists}
 use Rattle.group.specs.Sound.{Sound, greatestCount, sound}
 use Rattle.group.specs.declared.Check.{Check}
@@ -45,7 +45,8 @@ unfolding firstFailing
 first-nowhere test lows highs i end held = rw (← held, drop-of-length-le lows end)
 
 -- where there is no first, all units pass
-pub first-none : (test : ℕ → ℕ → Bool) (place : ℕ) (lows highs : List ℕ) → length highs ≡ length lows → firstFailing test (suc place) lows highs ≡ 0
+pub first-none : (test : ℕ → ℕ → Bool) (place : ℕ) (lows highs : List ℕ) → length highs ≡ length lows
+    → firstFailing test (suc place) lows highs ≡ 0
     → (i : ℕ) → i < length lows → test (getD lows i 0) (getD highs i 0) ≡ true
 unfolding firstFailing
 first-none test place [] highs e none i h = absurd (omega arith)
@@ -72,7 +73,8 @@ sized-of count other room held =
       fits = leb-true _ _ (both-right (leb count greatestCount) _ third);
     }
 
-refuse-passed : (b : Bool) (number place : ℕ) (next : Check) → refuseIf b number place next ≡ Passed → (b ≡ false) × (next ≡ Passed)
+-- a check that passes refuses nothing, and what comes after it passes
+pub refuse-passed : (b : Bool) (number place : ℕ) (next : Check) → refuseIf b number place next ≡ Passed → (b ≡ false) × (next ≡ Passed)
 refuse-passed true number place next e = (cc, cc)
 refuse-passed false number place next e = (refl, e)
 
@@ -86,11 +88,11 @@ passed-sound lows highs room amounts held =
     let third = refuse-passed (not amounts) _ _ _ (second .1) in
     let fourth = refuse-passed (ltb 0 (firstCrossed lows highs)) _ _ _ (third .1) in
     let lengths = sized-of (length lows) (length highs) room (not-false _ (first .0)) in
+    let paired : length highs ≡ length lows = sym (lengths .paired) in
     let beyond : firstBeyond lows highs ≡ 0 = omega (arith, ltb-false 0 (firstBeyond lows highs) (second .0)) in
-    let crossed : firstCrossed lows highs ≡ 0 = omega (arith, ltb-false 0 (firstCrossed lows highs) (fourth .0)) in (
-      sound
-          (ranges-of lows highs (sym (lengths .paired))
-          (λ i h. (leb-true _ _ (first-none leb 0 lows highs (sym (lengths .paired)) crossed i h), leb-true _ _ (both-right (leb (getD lows i 0) greatestShare) _ (first-none areShares 0 lows highs (sym (lengths .paired)) beyond i h)))))
-          (lengths .few),
-      lengths .fits,
-    )
+    let crossed : firstCrossed lows highs ≡ 0 = omega (arith, ltb-false 0 (firstCrossed lows highs) (fourth .0)) in
+    let ranges : Ranges lows highs = ranges-of lows highs paired (λ i h. (
+      leb-true _ _ (first-none leb 0 lows highs paired crossed i h),
+      leb-true _ _ (both-right (leb (getD lows i 0) greatestShare) _ (first-none areShares 0 lows highs paired beyond i h)),
+    )) in
+    (sound ranges (lengths .few), lengths .fits)

@@ -1,18 +1,17 @@
 -- The lists that the inner functions ask for, and how large their sums are. Assumes nothing.
-use Prim.Native.Nat.{ℕ, _*_, _≤_, _<_}
+use Prim.Native.Nat.{ℕ, _*_, _≤_}
 use mathlib.Core.Bool.{true}
 use borrow.Author.Tests.{leb-true}
 use lib.Dec.{leb}
 use mathlib.Core.List.{List}
 use mathlib.Core.Path.{_≡_, sym}
 use native.Mathlib.Omega.{arith}
-use lib.ListN.{length, set, length-set}
+use lib.ListN.{length}
 use Rattle.model.specs.Shares.{Ranges, greatestShare, sum}
 use Rattle.model.specs.Levels.{totalAt, clamped, level, topped, remainder, levelled}
 use Rattle.model.specs.Plans.{hasShares}
 use Rattle.model.specs.Laws.Tests.{both-left, both-right}
 use Rattle.model.specs.Laws.Lists.{ranges-length, within-length}
-use Rattle.model.specs.Laws.Pinned.{pinned-ranges}
 use Rattle.model.specs.Laws.Levelled.{levelled-adds, levelled-within}
 use Rattle.model.specs.Laws.Level.{totalAt-cons, totalAt-least, totalAt-greatest, clamp-at-most}
 
@@ -24,19 +23,15 @@ greatestCount = 256
 abbrev pub greatestTotal : ℕ
 greatestTotal = 256_000_000
 
--- ranges of at most 256 members
+-- ranges of at most 256 members; the total is any number, while probe's Sound bounds it too
 pub record Sound (lows highs : List ℕ) : Type 0 where
   pub ranges : Ranges lows highs
   pub paired : length highs ≡ length lows
   pub few : length lows ≤ greatestCount
 
+-- what makes ranges sound
 pub sound : {lows highs : List ℕ} → Ranges lows highs → length lows ≤ greatestCount → Sound lows highs
 sound ranges few = record { ranges = ranges; paired = ranges-length ranges; few = few }
-
--- a member pinned to a share leaves them sound
-pub pinned-sound : {lows highs : List ℕ} → Sound lows highs → (i : ℕ) → i < length lows → (v : ℕ) → v ≤ greatestShare
-    → Sound (set lows i v) (set highs i v)
-pinned-sound {lows} s i below v share = sound (pinned-ranges (s .ranges) i below v share) (rw (length-set lows i v) (s .few))
 
 -- T(v) is at most n times the greatest share
 totalAt-bound : {lows highs : List ℕ} → Ranges lows highs → (v : ℕ) → totalAt lows highs v ≤ length lows * greatestShare

@@ -1,19 +1,16 @@
 // The figures of a group's levelled shares, and whether they are within its limits.
 use crate::Figures;
-use crate::shares::clamp;
 use crate::shares::extra;
-use crate::shares::level_at;
-use crate::shares::remainder_at;
 use crate::shares::sum_of;
 use model::Deviation;
-use model::Limits;
 use model::Spread;
+use probe::pins::clamp;
 ghost use mathlib.Core.Path.{_≡_};
 ghost use lib.ListN.{length};
 ghost use Rattle.model.specs.Shares.{sum};
 ghost use Rattle.model.specs.Figures.{apart};
 ghost use Rattle.model.specs.Levels.{topped};
-ghost use Rattle.model.specs.Plans.{hasShares, hasPlan};
+ghost use Rattle.model.specs.Plans.{hasShares};
 ghost use Rattle.group.specs.Sound.{Sound};
 ghost use Rattle.group.specs.Figures.{figuresOf};
 
@@ -61,20 +58,4 @@ pub fn has_shares(lows: &[u64], highs: &[u64], total: u64) -> bool
         return false;
     }
     total <= sum_of(highs)
-}
-
-// Whether the group has a plan: its levelled shares are within the limits.
-pub fn has_plan(lows: &[u64], highs: &[u64], total: u64, limits: Limits) -> bool
-    requires { ⌜ Sound (now lows) (now highs) ⌝ }
-    ensures { λ r. ⌜ r ≡ hasPlan (now (lows .entry)) (now (highs .entry)) total limits ⌝ }
-{
-    if !has_shares(lows, highs, total) {
-        return false;
-    }
-    let v = level_at(lows, highs, total);
-    let left = remainder_at(lows, highs, total, v);
-    let figures = figures_at(lows, highs, v, left, total);
-    let deviation = figures.deviation;
-    let spread = figures.spread;
-    limits.met(deviation, spread)
 }

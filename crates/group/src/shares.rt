@@ -1,35 +1,22 @@
 // The level of a group and its levelled shares, from the ranges alone.
+use model::Share;
+use probe::pins::clamp;
 ghost use mathlib.Core.Path.{_≡_};
 ghost use Prim.Native.Nat.{_+_, _≤_, min};
 ghost use mathlib.Core.List.{_++_};
 ghost use lib.ListN.{length, drop};
 ghost use Rattle.model.specs.Shares.{sum};
-ghost use Rattle.model.specs.Levels.{clamp, growth, totalAt, level, remainder, topped};
+ghost use Rattle.model.specs.Levels.{growth, totalAt, level, remainder, topped};
 ghost use Rattle.group.specs.Sound.{Sound, HasShares, greatestTotal};
-use model::Share;
 
 // The smaller of two numbers.
-fn smaller(a: u64, b: u64) -> u64
+pub(crate) fn smaller(a: u64, b: u64) -> u64
     ensures { λ r. ⌜ r ≡ min a b ⌝ }
 {
     if a <= b {
         return a;
     }
     b
-}
-
-// A level moved into a range.
-pub fn clamp(low: u64, high: u64, v: u64) -> u64
-    requires { ⌜ low ≤ high ⌝ }
-    ensures { λ r. ⌜ r ≡ clamp low high v ⌝ }
-{
-    if v < low {
-        return low;
-    }
-    if high < v {
-        return high;
-    }
-    v
 }
 
 // The copy that a member takes of those left over: one, or none.

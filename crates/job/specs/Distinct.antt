@@ -1,9 +1,8 @@
 -- Numbers are distinct, by marks: each is marked when it is met, and none is met marked. Assumes nothing.
 use Prim.Native.Nat.{ℕ, zero, suc, _+_, _-_, _≤_, _<_}
-use mathlib.Core.Bool.{Bool, true, false, not, _&&_, _||_}
+use mathlib.Core.Bool.{Bool, true, false, not, _&&_}
 use mathlib.Core.List.{List, [], _∷_, map}
-use mathlib.Core.Logic.{_≢_}
-use mathlib.Core.Path.{_≡_, refl, sym, ap, _∙_}
+use mathlib.Core.Path.{_≡_, refl, sym, _∙_}
 use native.Mathlib.Omega.{arith}
 use native.Mathlib.Decide.{ℕ-discrete}
 use borrow.Author.Tests.{eq-eqb, ne-eqb, leb-true}
@@ -11,7 +10,7 @@ use lib.Dec.{eqb, leb}
 use lib.ListN.{length, getD, set, drop, replicate, length-set, length-replicate, getD-replicate}
 use native.Mathlib.Numerals.{add-one}
 use lib.Seq.{getD-set-same, getD-set-other, drop-cons}
-use Rattle.text.specs.Tests.{and-left, and-right, and-true, and-assoc}
+use Rattle.text.specs.Tests.{and-left, and-right}
 use Rattle.job.specs.Job.{named, allNamed, holds, distinct, memberOf}
 
 -- every number of the list is below
@@ -108,6 +107,7 @@ pub fresh-next : (marks xs : List ℕ) (i : ℕ) → i < length xs → freshBy m
 unfolding freshBy
 fresh-next marks xs i h = rw (add-one, drop-cons xs i 0)
 
+-- no number is left
 pub fresh-end : (marks : List ℕ) → freshBy marks [] ≡ true
 unfolding freshBy
 fresh-end marks = refl

@@ -1,10 +1,10 @@
 -- The groups of a job as one flat list of numbers, which settling works on. Assumes nothing.
-use Prim.Native.Nat.{ℕ, zero, suc, _+_, _*_, _≤_, _<_}
-use mathlib.Core.List.{List, [], _∷_, _++_, map, append-assoc, append-nil}
+use Prim.Native.Nat.{ℕ, suc, _+_, _*_, _≤_, _<_}
+use mathlib.Core.List.{List, [], _∷_, _++_, append-assoc, append-nil}
 use mathlib.Core.Path.{_≡_, refl, sym, ap, _∙_}
 use native.Mathlib.Omega.{arith}
 use native.Mathlib.Numerals.{add-one}
-use lib.ListN.{length, getD, drop, set, length-append, length-map, length-drop}
+use lib.ListN.{length, getD, drop, set, length-append, length-drop}
 use lib.Seq.{sets, sets-eq, set-at, drop-cons, drop-drop}
 use Rattle.model.specs.Groups.{Group}
 use Rattle.model.specs.declared.Limit.{Limit}
@@ -26,16 +26,19 @@ unfoldable pub flatten : List Group → List ℕ
 flatten [] = []
 flatten (g ∷ gs) = flatGroup g ++ flatten gs
 
+-- one group more at the end
 pub flatten-snoc : (gs : List Group) (g : Group) → flatten (gs ++ g ∷ []) ≡ flatten gs ++ flatGroup g
 unfolding flatten
 flatten-snoc [] g = rw (append-nil (g .members))
 flatten-snoc (h ∷ gs) g = rw (flatten-snoc gs g) (sym (append-assoc (flatGroup h) (flatten gs) (flatGroup g)))
 
+-- 4 numbers a group, and its members
 pub length-flatten : (gs : List Group) → length (flatten gs) ≡ length gs * 4 + memberships gs
 unfolding flatten memberships
 length-flatten [] = refl
 length-flatten (g ∷ gs) = rw (length-append (flatGroup g) (flatten gs), length-flatten gs) (omega arith)
 
+-- the memberships with one group more
 pub memberships-snoc : (gs : List Group) (g : Group) → memberships (gs ++ g ∷ []) ≡ memberships gs + length (g .members)
 unfolding memberships
 memberships-snoc [] g = omega arith

@@ -21,6 +21,7 @@ pub record GroupLine : Type 0 where
   pub first : ℕ
   pub others : List ℕ
 
+-- a line of a job text
 pub data Line : Type 0 where
   unit : UnitLine → Line
   group : GroupLine → Line
@@ -29,6 +30,7 @@ pub data Line : Type 0 where
 abbrev pub unitOpening : List ℕ
 unitOpening = 40 ∷ 117 ∷ 110 ∷ 105 ∷ 116 ∷ 32 ∷ []
 
+-- one space
 abbrev pub space : List ℕ
 space = 32 ∷ []
 
@@ -90,6 +92,7 @@ numberAs f w s = mapped f (numberAfter w s)
 unfoldable pub limitAs : (ℕ → ℕ) → List ℕ → List ℕ → Parsed Limit
 limitAs f w s = andThen (word w s) (λ u s. orElse (mapped (λ u. Any) (word anyWord s)) (mapped AtMost (numberAs f [] s)))
 
+-- a unit line
 unfoldable pub unitAs : (ℕ → ℕ) → List ℕ → Parsed UnitLine
 unitAs f s =
     andThen (numberAs f unitOpening s)
@@ -114,6 +117,7 @@ unfoldable pub grouped : Head → List ℕ → List ℕ → Parsed GroupLine
 grouped h [] s = failed
 grouped h (m ∷ ms) s = parsed (record { total = h .total; limits = h .limits; first = m; others = ms }) s
 
+-- a group line
 unfoldable pub groupAs : (ℕ → ℕ) → List ℕ → Parsed GroupLine
 groupAs f s =
     andThen (headAs f s)
@@ -121,6 +125,7 @@ groupAs f s =
     (λ ms s. andThen (word groupEnding s)
     (λ u s. grouped h ms s)))
 
+-- a unit line, or else a group line
 unfoldable pub lineAs : (ℕ → ℕ) → List ℕ → Parsed Line
 lineAs f s = orElse (mapped unit (unitAs f s)) (mapped group (groupAs f s))
 

@@ -1,14 +1,14 @@
 -- Numbers above every limit may be held alike: a line so held is taken or refused as the line itself. Assumes nothing.
-use Prim.Native.Nat.{ℕ, zero, suc, _+_, _-_, _≤_, _<_, min}
-use mathlib.Core.Bool.{Bool, true, false, _&&_}
-use mathlib.Core.List.{List, [], _∷_, _++_, map}
+use Prim.Native.Nat.{ℕ, zero, suc, _-_, _<_}
+use mathlib.Core.Bool.{Bool, true, false}
+use mathlib.Core.List.{List, [], _∷_, map}
 use mathlib.Core.Path.{_≡_, refl, sym, ap, _∙_}
 use native.Mathlib.Omega.{arith}
 use native.Mathlib.Decide.{decLe}
 use borrow.Author.Tests.{le-leb, lt-leb, leb-true}
-use lib.Dec.{leb, ltb, eqb}
+use lib.Dec.{leb}
 use lib.ListN.{length, length-map}
-use Rattle.model.specs.Shares.{pick, greatestShare}
+use Rattle.model.specs.Shares.{greatestShare}
 use Rattle.model.specs.declared.Limit.{Limit}
 use Rattle.model.specs.declared.Limit.the-variants.{Any, AtMost}
 use Rattle.model.specs.declared.Limits.{Limits}

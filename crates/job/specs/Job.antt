@@ -19,22 +19,27 @@ pub record Job : Type 0 where
   pub highs : List ℕ
   pub groups : List Group
 
--- 01: the limits of a job
+-- 01: a total is 0 to 256,000,000
 abbrev pub greatestTotal : ℕ
 greatestTotal = 256_000_000
 
+-- 01: the deviation limit is 0 to 100,000,000,000
 abbrev pub greatestDeviation : ℕ
 greatestDeviation = 100_000_000_000
 
+-- 01: the spread limit is 0 to 100,000,000,000,000,000
 abbrev pub greatestSpread : ℕ
 greatestSpread = 100_000_000_000_000_000
 
+-- 01: "1 to 256 units"
 abbrev pub mostUnits : ℕ
 mostUnits = 256
 
+-- 01: "0 to 64 groups"
 abbrev pub mostGroups : ℕ
 mostGroups = 64
 
+-- 01: "at most 4,096 memberships"
 abbrev pub mostMemberships : ℕ
 mostMemberships = 4096
 
@@ -42,6 +47,7 @@ mostMemberships = 4096
 abbrev pub mostFlat : ℕ
 mostFlat = 4352
 
+-- 01: "at most 65,536 bytes"
 abbrev pub mostBytes : ℕ
 mostBytes = 65_536
 
@@ -50,6 +56,7 @@ unfoldable pub memberships : List Group → ℕ
 memberships [] = 0
 memberships (g ∷ gs) = length (g .members) + memberships gs
 
+-- any, or a number in range
 abbrev pub limitUpTo : ℕ → Limit → Bool
 limitUpTo most Any = true
 limitUpTo most (AtMost v) = leb v most
@@ -58,14 +65,17 @@ limitUpTo most (AtMost v) = leb v most
 abbrev pub named : ℕ → ℕ → Bool
 named units m = leb 1 m && leb m units
 
+-- every number is a unit's
 unfoldable pub allNamed : ℕ → List ℕ → Bool
 allNamed units [] = true
 allNamed units (m ∷ ms) = named units m && allNamed units ms
 
+-- a number is in a list
 unfoldable pub holds : ℕ → List ℕ → Bool
 holds x [] = false
 holds x (y ∷ ys) = eqb x y || holds x ys
 
+-- no number is twice in a list
 unfoldable pub distinct : List ℕ → Bool
 distinct [] = true
 distinct (x ∷ xs) = not (holds x xs) && distinct xs
@@ -101,6 +111,7 @@ abbrev pub first : ℕ → ℕ → ℕ
 first zero b = b
 first (suc a) b = suc a
 
+-- 01: the lowest of 4 to 9 that applies to a line in the form, 0 where none does
 unfoldable pub verdict : Job → Line → ℕ
 verdict job (unit l) = unitVerdict (length (job .lows)) (length (job .groups)) l
 verdict job (group g) =
@@ -111,6 +122,7 @@ verdict job (group g) =
 abbrev pub memberOf : ℕ → ℕ
 memberOf m = m - 1
 
+-- the group of a group line
 abbrev pub groupOf : GroupLine → Group
 groupOf g = record { total = g .total; limits = g .limits; members = map memberOf (g .first ∷ g .others) }
 
@@ -124,6 +136,7 @@ pub data Stepped : Type 0 where
   next : Job → List ℕ → Stepped
   stop : Refusal → Stepped
 
+-- 01: a refusal is number and place
 abbrev pub refusal : ℕ → ℕ → Refusal
 refusal number place = record { number = number; place = place }
 
@@ -131,10 +144,12 @@ refusal number place = record { number = number; place = place }
 abbrev pub placeOf : Job → ℕ
 placeOf job = length (job .lows) + length (job .groups) + 1
 
+-- a line without a refusal is added; one with it stops the reading there
 abbrev pub judged : ℕ → Job → List ℕ → ℕ → Stepped
 judged zero job s place = next job s
 judged (suc number) job s place = stop (refusal (suc number) place)
 
+-- 01: 3 for a line not in the form
 unfoldable pub stepOn : Job → Parsed Line → Stepped
 stepOn job (parsed l s) = judged (verdict job l) (add job l) s (placeOf job)
 stepOn job failed = stop (refusal 3 (placeOf job))
@@ -155,6 +170,7 @@ readLines zero job s = accepted job
 readLines (suc n) job [] = accepted job
 readLines (suc n) job (b ∷ s) = onward (λ job s. readLines n job s) (stepOn job (line (b ∷ s)))
 
+-- the job of no line
 abbrev pub noLines : Job
 noLines = record { lows = []; highs = []; groups = [] }
 

@@ -12,3 +12,4 @@ pub mod Taking
 pub mod Reading
 pub mod Scanning
 pub mod Sound
+pub mod Worked

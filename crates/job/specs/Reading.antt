@@ -1,8 +1,8 @@
 -- The answers of reading, and what it leaves in the lists. Assumes nothing.
 use Prim.Native.Nat.{ℕ, zero, suc, _+_, _≤_, _<_}
-use mathlib.Core.Bool.{Bool, true, false, _&&_}
+use mathlib.Core.Bool.{_&&_}
 use mathlib.Core.List.{List, [], _∷_, _++_}
-use mathlib.Core.Path.{_≡_, refl, sym, ap, _∙_}
+use mathlib.Core.Path.{_≡_, refl, ap}
 use native.Mathlib.Omega.{arith}
 use borrow.Author.Tests.{le-leb, lt-leb}
 use lib.Dec.{leb}
@@ -13,7 +13,7 @@ use Rattle.model.specs.declared.Refusal.{Refusal}
 use Rattle.text.specs.Parsed.{Parsed, parsed, failed}
 use Rattle.job.specs.Form.{Line, unit, group, printLine, line}
 use Rattle.job.specs.Spelling.{printed-line}
-use Rattle.job.specs.Job.{Job, Stepped, next, stop, stepOn, verdict, judged, add, placeOf, Outcome, accepted, refused, refusal, onward, readLines, readJob}
+use Rattle.job.specs.Job.{Job, next, stop, stepOn, verdict, judged, add, placeOf, Outcome, accepted, refused, refusal, onward, readLines, readJob}
 use Rattle.job.specs.Flat.{flatten}
 use Rattle.job.specs.declared.Reading.{Reading}
 use Rattle.job.specs.declared.Reading.the-variants.{Read, Refused}
@@ -38,6 +38,7 @@ abbrev pub lowsAfter : Outcome → List ℕ → List ℕ
 lowsAfter (accepted job) lows = job .lows ++ drop (length (job .lows)) lows
 lowsAfter (refused r) lows = lows
 
+-- and so the highs
 abbrev pub highsAfter : Outcome → List ℕ → List ℕ
 highsAfter (accepted job) highs = job .highs ++ drop (length (job .lows)) highs
 highsAfter (refused r) highs = highs
@@ -113,23 +114,28 @@ pub accepted-by : (o : Outcome) (units groups : ℕ) → Read units groups ≡ r
 accepted-by (accepted job) units groups h = (job, refl, cc, cc)
 accepted-by (refused r) units groups h = absurd (let z : _≡_ {A = ℕ} 0 1 = cc in omega arith)
 
+-- the refusal behind an answer
 pub refused-by : (o : Outcome) (r : Refusal) → Refused r ≡ readingOf o → o ≡ refused r
 refused-by (accepted job) r h = absurd (let z : _≡_ {A = ℕ} 0 1 = cc in omega arith)
 refused-by (refused q) r h = cc
 
 module _ (text : List ℕ) (a b : ℕ) where
+  -- a refusal of the text comes first
   pub table-refused : (r : Refusal) → readJob text ≡ refused r → readTable text a b ≡ refused r
   unfolding readTable fitTable
   table-refused r e = rw e
 
+  -- too few lows
   pub table-short : (job : Job) → readJob text ≡ accepted job → a < length (job .lows) → readTable text a b ≡ refused (refusal 1 0)
   unfolding readTable fitTable
   table-short job e h = rw (e, lt-leb (length (job .lows)) a h)
 
+  -- a table long enough
   pub table-fits : (job : Job) → readJob text ≡ accepted job → length (job .lows) ≤ a → length (job .lows) ≤ b → readTable text a b ≡ accepted job
   unfolding readTable fitTable
   table-fits job e h k = rw (e, le-leb (length (job .lows)) a h, le-leb (length (job .lows)) b k)
 
+  -- too few highs
   pub table-short-highs : (job : Job) → readJob text ≡ accepted job → length (job .lows) ≤ a → b < length (job .lows) → readTable text a b ≡ refused (refusal 1 0)
   unfolding readTable fitTable
   table-short-highs job e h k = rw (e, le-leb (length (job .lows)) a h, lt-leb (length (job .lows)) b k)

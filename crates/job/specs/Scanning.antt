@@ -1,14 +1,13 @@
 -- Scanning a text line by line: what holds at each line, and what that says at the end. Assumes nothing.
-use Prim.Native.Nat.{ℕ, _+_, _*_, _≤_, _<_}
-use mathlib.Core.Bool.{true, false}
-use mathlib.Core.List.{List, [], _++_}
+use Prim.Native.Nat.{ℕ, _≤_, _<_}
+use mathlib.Core.List.{List}
 use mathlib.Core.Path.{_≡_, refl, sym, ap, _∙_}
 use native.Mathlib.Omega.{arith}
 use borrow.Author.Tests.{le-leb, lt-leb, eq-eqb, ne-eqb}
 use lib.ListN.{length, drop, length-drop, drop-of-length-le}
 use Rattle.model.specs.declared.Refusal.{Refusal}
 use Rattle.job.specs.Form.{line}
-use Rattle.job.specs.Job.{Job, mostBytes, noLines, memberships, next, stop, stepOn, Outcome, accepted, refused, refusal, readLines, someUnit, readJob}
+use Rattle.job.specs.Job.{Job, mostBytes, noLines, memberships, stop, stepOn, Outcome, accepted, refused, refusal, readLines, someUnit, readJob}
 use Rattle.job.specs.Flat.{flatten, length-flatten}
 use Rattle.job.specs.Steps.{lists, Holds, Answers}
 use Rattle.job.specs.declared.steps.Taken.the-variants as taken
@@ -72,6 +71,7 @@ module _ (text : List ℕ) (short : length text ≤ mostBytes) where
   unfolding someUnit
   no-unit job e z = by-lines (accepted job) e ∙ rw (eq-eqb (length (job .lows)) 0 z)
 
+  -- some unit line
   pub some-unit : (job : Job) → readLines (length text) noLines text ≡ accepted job → (length (job .lows) ≡ 0 → ⊥) → readJob text ≡ accepted job
   unfolding someUnit
   some-unit job e n = by-lines (accepted job) e ∙ rw (ne-eqb (length (job .lows)) 0 n)
@@ -89,6 +89,7 @@ never : {job : Job} {r : Refusal} {o : Outcome} → o ≡ refused r → o ≡ ac
 never e f = let z : _≡_ {A = ℕ} 0 1 = cc in omega arith
 
 module _ (text lows₀ highs₀ flat₀ lows highs flat : List ℕ) where
+  -- a refusal says nothing of the lists
   pub scanned-refused : (r : Refusal) → readJob text ≡ refused r → Scanned text lows₀ highs₀ flat₀ lows highs flat (Refused r)
   scanned-refused r e =
       record {
@@ -99,6 +100,7 @@ module _ (text lows₀ highs₀ flat₀ lows highs flat : List ℕ) where
         found-flat = λ job f. absurd (never e f);
       }
 
+  -- an accepted text is held in the lists
   pub scanned-accepted : (job : Job) (p : Progress) → readJob text ≡ accepted job → Holds job p (lists lows₀ highs₀ flat₀ lows highs flat) → Scanned text lows₀ highs₀ flat₀ lows highs flat (Read (p .units) (p .groups))
   scanned-accepted job p e holds =
       let held : (k : Job) → readJob text ≡ accepted k → job ≡ k = λ k f. cc in

@@ -1,22 +1,21 @@
 -- What an accepted job satisfies. Assumes nothing.
-use Prim.Native.Nat.{ℕ, zero, suc, _+_, _-_, _≤_, _<_}
+use Prim.Native.Nat.{ℕ, zero, suc, _+_, _-_, _≤_}
 use mathlib.Core.Bool.{Bool, true, false}
-use mathlib.Core.List.{List, [], _∷_, _++_, map}
-use mathlib.Core.Path.{_≡_, refl, sym, ap, _∙_}
+use mathlib.Core.List.{List, [], _∷_, _++_}
+use mathlib.Core.Path.{_≡_, refl, _∙_}
 use native.Mathlib.Omega.{arith}
 use native.Mathlib.Decide.{ℕ-discrete}
-use borrow.Author.Tests.{leb-true, le-leb, lt-leb, ne-eqb, eq-eqb}
-use lib.Dec.{leb, eqb}
+use borrow.Author.Tests.{ne-eqb, eq-eqb}
+use lib.Dec.{leb}
 use lib.ListN.{length, length-append, length-map}
 use Rattle.model.specs.Shares.{pick, greatestShare, Ranges, none as no-ranges, also as and-range}
 use Rattle.model.specs.Groups.{Group}
-use Rattle.model.specs.declared.Refusal.{Refusal}
 use Rattle.text.specs.Parsed.{Parsed, parsed, failed}
-use Rattle.job.specs.Form.{UnitLine, GroupLine, Line, unit, group, line}
-use Rattle.job.specs.Job.{Job, greatestTotal, greatestDeviation, greatestSpread, mostUnits, mostGroups, mostMemberships, mostBytes, memberships, limitUpTo, distinct, memberOf, groupOf, verdict, add, placeOf, judged, Stepped, next, stop, stepOn, Outcome, accepted, refused, refusal, onward, readLines, noLines, someUnit, readJob}
+use Rattle.job.specs.Form.{Line, unit, group, line}
+use Rattle.job.specs.Job.{Job, greatestTotal, greatestDeviation, greatestSpread, mostUnits, mostGroups, mostMemberships, mostBytes, memberships, limitUpTo, distinct, groupOf, verdict, add, placeOf, judged, Stepped, next, stop, stepOn, Outcome, accepted, refused, refusal, onward, readLines, noLines, someUnit, readJob}
 use Rattle.job.specs.Flat.{memberships-snoc}
 use Rattle.job.specs.Distinct.{AllBelow, distinct-members, members-below}
-use Rattle.job.specs.Verdicts.{UnitGood, unit-good, first-zero, head-good, members-good}
+use Rattle.job.specs.Verdicts.{unit-good, first-zero, head-good, members-good}
 
 -- 01: a group "names n different units", with a total and limits in range
 pub record SoundGroup (units : ℕ) (g : Group) : Type 0 where
@@ -27,6 +26,7 @@ pub record SoundGroup (units : ℕ) (g : Group) : Type 0 where
   pub all-units : AllBelow units (g .members)
   pub all-different : distinct (g .members) ≡ true
 
+-- every group is sound
 pub data SoundGroups (units : ℕ) : List Group → Type 0 where
   none : SoundGroups units []
   also : {g : Group} {gs : List Group} → SoundGroup units g → SoundGroups units gs → SoundGroups units (g ∷ gs)

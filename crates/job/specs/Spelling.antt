@@ -1,16 +1,13 @@
 -- The form has one spelling: a printed line reads as itself, and what reads as a line was printed so. Assumes nothing.
-use Prim.Native.Nat.{ℕ, zero, suc, _+_, _≤_, _<_}
-use mathlib.Core.Bool.{Bool, true, false}
+use Prim.Native.Nat.{ℕ, zero, suc, _+_, _≤_}
 use mathlib.Core.List.{List, [], _∷_, _++_, append-assoc}
 use mathlib.Core.Path.{_≡_, refl, sym, ap, _∙_}
 use native.Mathlib.Omega.{arith}
-use mathlib.Core.Logic.{_⊎_, inl, inr, ⊎-elim}
+use mathlib.Core.Logic.{_⊎_, ⊎-elim}
 use lib.ListN.{length, length-append}
-use Rattle.model.specs.Shares.{pick}
 use Rattle.model.specs.declared.Limit.{Limit}
 use Rattle.model.specs.declared.Limit.the-variants.{Any, AtMost}
-use Rattle.model.specs.declared.Limits.{Limits}
-use Rattle.text.specs.Parsed.{Parsed, parsed, failed, andThen, mapped, orElse, word, then-parsed, mapped-parsed, either-parsed, word-parsed, word-own}
+use Rattle.text.specs.Parsed.{parsed, failed, andThen, mapped, orElse, word, then-parsed, mapped-parsed, either-parsed, word-parsed, word-own}
 use Rattle.text.specs.Numbers.{numberAfter, printNumber}
 use Rattle.text.specs.Printed.{Ends, number-printed, printed-number, number-not-word}
 use Rattle.job.specs.declared.lines.Head.{Head}

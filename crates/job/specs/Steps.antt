@@ -1,9 +1,9 @@
 -- What the code holds of a job while it reads, and what taking a line does to it. Assumes nothing.
-use Prim.Native.Nat.{ℕ, _+_, _*_, _≤_, _<_}
+use Prim.Native.Nat.{ℕ, _+_, _*_, _≤_}
 use mathlib.Core.List.{List, _++_}
 use mathlib.Core.Path.{_≡_}
 use lib.ListN.{length, drop}
-use Rattle.text.specs.Parsed.{Parsed, mapped, parsed}
+use Rattle.text.specs.Parsed.{mapped, parsed}
 use Rattle.text.specs.Numbers.{held}
 use Rattle.job.specs.Form.{UnitLine, Line, unit, group, groupAs, line}
 use Rattle.job.specs.Job.{Job, mostUnits, mostGroups, mostMemberships, memberships, Stepped, next, stop, stepOn}

@@ -1,20 +1,20 @@
 -- Taking a line: the code's tests and stores do to its lists what the line does to the job. Assumes nothing.
 use Prim.Native.Nat.{ℕ, zero, suc, _+_, _-_, _*_, _≤_, _<_}
-use mathlib.Core.Bool.{Bool, true, false}
+use mathlib.Core.Bool.{true, false}
 use mathlib.Core.List.{List, [], _∷_, _++_, map, append-assoc}
 use mathlib.Core.Path.{_≡_, refl, sym, ap, _∙_}
 use native.Mathlib.Omega.{arith}
 use lib.ListN.{length, take, drop, set, length-append, length-drop, length-map}
 use lib.Seq.{sets, sets-eq, take-at, drop-at, length-take-le}
 use Rattle.model.specs.declared.Limits.{Limits}
-use Rattle.text.specs.Parsed.{Parsed, parsed, failed, mapped, orElse}
+use Rattle.text.specs.Parsed.{parsed, failed, mapped, orElse}
 use Rattle.text.specs.Numbers.{held}
-use Rattle.job.specs.Form.{UnitLine, GroupLine, Line, unit, group, unitAs, groupAs, lineAs, line}
+use Rattle.job.specs.Form.{UnitLine, GroupLine, unit, group, unitAs, groupAs, lineAs, line}
 use Rattle.job.specs.Held.{step-held}
-use Rattle.job.specs.Job.{Job, mostUnits, mostGroups, mostMemberships, mostFlat, memberships, unitVerdict, headVerdict, membersVerdict, verdict, first, allNamed, distinct, memberOf, groupOf, add, refusal, placeOf, judged, Stepped, next, stop, stepOn}
+use Rattle.job.specs.Job.{Job, mostUnits, mostFlat, memberships, unitVerdict, headVerdict, membersVerdict, verdict, first, allNamed, distinct, memberOf, groupOf, add, refusal, placeOf, judged, next, stop, stepOn}
 use Rattle.job.specs.Flat.{limitCode, flatGroup, flatten, flatten-snoc, length-flatten, memberships-snoc, stored, put-behind}
 use Rattle.job.specs.Verdicts.{unit-good, head-good}
-use Rattle.job.specs.Steps.{Bounded, Lists, Holds}
+use Rattle.job.specs.Steps.{Lists, Holds}
 use Rattle.job.specs.declared.steps.Progress.{Progress}
 
 judged-stop : (v : ℕ) (job : Job) (s : List ℕ) (place : ℕ) → (v ≡ 0 → ⊥) → judged v job s place ≡ stop (refusal v place)
@@ -52,6 +52,7 @@ module _ (job : Job) (p : Progress) (l : Lists) (holds : Holds job p l) where
   room xs d ys e f h =
       omega (arith, ap length f, length-append xs (drop (p .units) d), length-drop (p .units) d)
 
+  -- the lists with a unit more hold the job with it
   pub unit-holds : (u : UnitLine) → unitVerdict (p .units) (p .groups) u ≡ 0 → mostUnits ≤ length (l .lows) → mostUnits ≤ length (l .highs) → Holds (add job (unit u)) (record { units = p .units + 1; groups = p .groups; memberships = p .memberships }) (record { lows₀ = l .lows₀; highs₀ = l .highs₀; flat₀ = l .flat₀; lows = set (l .lows) (p .units) (u .low); highs = set (l .highs) (p .units) (u .high); flat = l .flat })
   unfolding add
   unit-holds u e a b =
@@ -113,6 +114,7 @@ module _ (job : Job) (p : Progress) (l : Lists) (holds : Holds job p l) (g : Gro
       let k = head-good _ _ (g .total) (g .limits) _ e in
       omega (arith, k .room, k .fits, ap length (holds .flat), length-append (flatten (job .groups)) (drop start (l .flat₀)), length-drop start (l .flat₀), length-flatten (job .groups), holds .groups, holds .taken)
 
+  -- the numbers of a group before its members
   abbrev pub headNumbers : List ℕ
   headNumbers = g .total ∷ limitCode (g .limits .deviation) ∷ limitCode (g .limits .spread) ∷ length (numbersOf g) ∷ []
 
@@ -129,6 +131,7 @@ module _ (job : Job) (p : Progress) (l : Lists) (holds : Holds job p l) (g : Gro
       ∙ ap (λ f. f ++ drop (start + 4 + length ms) (l .flat₀)) whole
       ∙ ap (λ k. flatten (job .groups ++ groupOf g ∷ []) ++ drop k (l .flat₀)) end
 
+  -- the lists with a group more hold the job with it
   pub group-holds : (count : ℕ) (flat : List ℕ) → headOf ≡ 0 → mostFlat ≤ length (l .flat) → length (numbersOf g) ≡ count → flat ≡ sets (sets (l .flat) (start + 4) (map memberOf (numbersOf g))) start headNumbers → Holds (add job (group g)) (record { units = p .units; groups = p .groups + 1; memberships = p .memberships + count }) (record { lows₀ = l .lows₀; highs₀ = l .highs₀; flat₀ = l .flat₀; lows = l .lows; highs = l .highs; flat = flat })
   unfolding add
   group-holds count flat e h n s =

@@ -1,10 +1,9 @@
 -- The members of a group line as the code keeps them: how many, whether all are units, and their place in the flat list. Assumes nothing.
 use Prim.Native.Nat.{ℕ, zero, suc, _+_, _-_, _≤_, _<_}
-use mathlib.Core.Bool.{Bool, true, false, _&&_}
+use mathlib.Core.Bool.{Bool, true, _&&_}
 use mathlib.Core.List.{List, [], _∷_, map}
 use mathlib.Core.Path.{_≡_, refl, sym, ap, _∙_}
 use native.Mathlib.Omega.{arith}
-use native.Mathlib.Numerals.{add-one}
 use lib.ListN.{length, set}
 use lib.Seq.{sets}
 use Rattle.text.specs.Parsed.{Parsed, parsed, failed, andThen, mapped, orElse, mapped-like, mapped-parsed}
@@ -15,6 +14,7 @@ use Rattle.job.specs.Form.{GroupLine, space, numberAs, membersAs, groupe
 use Rattle.job.specs.declared.lines.Head.{Head}
 use Rattle.job.specs.Job.{named, allNamed, memberOf}
 
+-- the members noted so far
 pub record Tally : Type 0 where
   pub count : ℕ
   pub within : Bool
@@ -25,6 +25,7 @@ abbrev pub noted : ℕ → ℕ → Tally → ℕ → Tally
 noted units from t m =
     record { count = t .count + 1; within = t .within && named units m; flat = set (t .flat) (from + t .count) (memberOf m) }
 
+-- a list of members noted in turn
 unfoldable pub notedAll : ℕ → ℕ → Tally → List ℕ → Tally
 notedAll units from t [] = t
 notedAll units from t (m ∷ ms) = notedAll units from (noted units from t m) ms
@@ -102,6 +103,7 @@ pub record GroupTally : Type 0 where
   pub head : Head
   pub tally : Tally
 
+-- a group line and the tally of its members
 abbrev pub groupTally : ℕ → ℕ → List ℕ → GroupLine → GroupTally
 groupTally units from flat g =
     record { head = record { total = g .total; limits = g .limits }; tally = tallied units from flat (g .first ∷ g .others) }
@@ -128,6 +130,7 @@ pub record GroupFacts (units from : ℕ) (flat flat′ s r : List ℕ) (head : H
   pub all-within : allNamed units (line .first ∷ line .others) ≡ within
   pub stored : flat′ ≡ sets flat from (map memberOf (line .first ∷ line .others))
 
+-- they are known from the answer
 pub group-facts : (units from : ℕ) (flat flat′ s r : List ℕ) (head : Head) (count : ℕ) (within : Bool) → mapped (groupTally units from flat) (groupAs held s) ≡ parsed (record { head = head; tally = record { count = count; within = within; flat = flat′ } }) r → GroupFacts units from flat flat′ s r head count within
 unfolding tallied
 group-facts units from flat flat′ s r head count within h =

@@ -1,7 +1,7 @@
 -- What a line without a refusal satisfies. Assumes nothing.
 use Prim.Native.Nat.{ℕ, zero, suc, _+_, _≤_, _<_}
-use mathlib.Core.Bool.{Bool, true, false, _&&_}
-use mathlib.Core.List.{List, [], _∷_}
+use mathlib.Core.Bool.{Bool, true, false}
+use mathlib.Core.List.{List}
 use mathlib.Core.Path.{_≡_, refl}
 use native.Mathlib.Omega.{arith}
 use borrow.Author.Tests.{le-leb, leb-true, ltb-true, eqb-true}
@@ -17,6 +17,7 @@ unless-zero : (t : Bool) (n r : ℕ) → unless t (suc n) r ≡ 0 → (t ≡ tru
 unless-zero true n r h = (refl, h)
 unless-zero false n r h = absurd (omega arith)
 
+-- neither refuses
 pub first-zero : (a b : ℕ) → first a b ≡ 0 → (a ≡ 0) × (b ≡ 0)
 first-zero zero b h = (refl, h)
 first-zero (suc a) b h = absurd (omega arith)
@@ -29,6 +30,7 @@ pub record UnitGood (units groups : ℕ) (l : UnitLine) : Type 0 where
   pub room : units < mostUnits
   pub ordered : l .low ≤ l .high
 
+-- so says the verdict 0 of a unit line
 pub unit-good : (units groups : ℕ) (l : UnitLine) → unitVerdict units groups l ≡ 0 → UnitGood units groups l
 unfolding unitVerdict
 unit-good units groups l h =
@@ -47,6 +49,7 @@ pub record HeadGood (groups taken total : ℕ) (limits : Limits) (count : ℕ) :
   pub room : groups < mostGroups
   pub fits : taken + count ≤ mostMemberships
 
+-- so says the verdict 0 of a head
 pub head-good : (groups taken total : ℕ) (limits : Limits) (count : ℕ) → headVerdict groups taken total limits count ≡ 0 → HeadGood groups taken total limits count
 unfolding headVerdict
 head-good groups taken total limits count h =
@@ -62,6 +65,7 @@ pub record MembersGood (units : ℕ) (ms : List ℕ) : Type 0 where
   pub all-named : allNamed units ms ≡ true
   pub all-distinct : distinct ms ≡ true
 
+-- so says the verdict 0 of members
 pub members-good : (units : ℕ) (ms : List ℕ) → membersVerdict units ms ≡ 0 → MembersGood units ms
 unfolding membersVerdict
 members-good units ms h =

@@ -8,6 +8,12 @@ use Rattle.model.specs.declared.Refusal.{Refusal}
 use Rattle.group.specs.declared.Levelling.{Levelling}
 use Rattle.group.specs.declared.Levelling.the-variants.{Levelled, Refused}
 use Rattle.group.specs.declared.Narrowing.{Narrowing}
+use Rattle.job.specs.declared.Reading.{Reading}
+use Rattle.report.specs.declared.Reporting.{Reporting}
+use Rattle.works.specs.declared.Settling.{Settling}
+use Rattle.planner.specs.declared.ForeignReport.{ForeignReport}
+use Rattle.planner.specs.declared.ForeignSettled.{ForeignSettled}
+use Rattle.planner.specs.declared.ForeignRead.{ForeignRead}
 use Rattle.planner.specs.declared.ForeignLimit.{ForeignLimit}
 use Rattle.planner.specs.declared.ForeignLimits.{ForeignLimits}
 use Rattle.planner.specs.declared.ForeignRefusal.{ForeignRefusal}
@@ -46,3 +52,22 @@ limitsOf limits = record { deviation = limitOf (limits .deviation); spread = lim
 abbrev pub foreignNarrowed : Narrowing → ForeignRefusal
 foreignNarrowed Narrowing.Narrowed = accepted
 foreignNarrowed (Narrowing.Refused refusal) = foreignRefusal refusal
+
+-- a reading; on a refusal the counts are 0
+abbrev pub foreignRead : Reading → ForeignRead
+foreignRead (Reading.Read units groups) = record { refusal = accepted; units = units; groups = groups }
+foreignRead (Reading.Refused refusal) = record { refusal = foreignRefusal refusal; units = 0; groups = 0 }
+
+-- a settling; the passes are 0 where it is refused ahead of the first
+abbrev pub foreignSettled : Settling → ForeignSettled
+foreignSettled (Settling.Settled passes) = record { refusal = accepted; passes = passes }
+foreignSettled (Settling.NoPlan number place passes) =
+    record { refusal = record { number = number; place = place }; passes = passes }
+foreignSettled (Settling.Refused refusal) = record { refusal = foreignRefusal refusal; passes = 0 }
+
+-- a report's answer
+abbrev pub foreignReport : Reporting → ForeignReport
+foreignReport (Reporting.Written length) = record { refusal = accepted; passes = 0; length = length }
+foreignReport (Reporting.NoPlan number place passes) =
+    record { refusal = record { number = number; place = place }; passes = passes; length = 0 }
+foreignReport (Reporting.Refused refusal) = record { refusal = foreignRefusal refusal; passes = 0; length = 0 }

@@ -1,6 +1,6 @@
 -- The six kinds of a byte. Assumes nothing.
 use Prim.Native.Nat.{ℕ}
-use mathlib.Core.Bool.{Bool, true, false, _&&_}
+use mathlib.Core.Bool.{_&&_}
 use lib.Dec.{leb, eqb}
 use Rattle.model.specs.Shares.{pick}
 use Rattle.text.specs.declared.Kind.{Kind}

@@ -9,6 +9,7 @@ use Rattle.text.specs.Parsed.{Parsed, parsed, failed, andThen, word}
 use Rattle.text.specs.declared.Kind.{Kind}
 use Rattle.text.specs.declared.Kind.the-variants.{Opening, Closing, Space, Digit, Letter, Foreign}
 
+-- the kind of the digits
 abbrev pub isDigit : Kind → Bool
 isDigit Opening = false
 isDigit Closing = false
@@ -45,5 +46,6 @@ printNumber v = digitsOf (suc v) v
 abbrev pub most : ℕ
 most = 1_000_000_000_000_000_000
 
+-- the value, or the greatest that is told apart
 abbrev pub held : ℕ → ℕ
 held v = min v most

@@ -1,20 +1,19 @@
 -- The laws of numbers: what was printed reads as itself, and what reads was printed so. Assumes nothing.
-use Prim.Native.Nat.{ℕ, zero, suc, _+_, _-_, _*_, _/_, _%_, _≤_, _<_, min}
+use Prim.Native.Nat.{ℕ, zero, suc, _+_, _-_, _*_, _/_, _%_, _≤_, _<_}
 use mathlib.Core.Bool.{Bool, true, false, _&&_}
 use mathlib.Core.List.{List, [], _∷_, _++_, append-assoc}
 use mathlib.Core.Path.{_≡_, refl, sym, ap, _∙_}
-use lib.Dec.{eqb, ltb, leb}
+use lib.Dec.{eqb, leb}
 use lib.ListN.{length, length-append}
-use native.Mathlib.Omega.{arith, sub-cases}
-use native.Mathlib.Nat.{div-add-mod', mod-lt, div-lt-self}
-use native.Mathlib.Decide.{decLt, decLe, ℕ-discrete}
-use borrow.Author.Tests.{le-leb, lt-leb, ne-eqb, eq-eqb, lt-ltb, le-ltb, leb-true, eqb-true, eqb-false}
+use native.Mathlib.Omega.{arith}
+use native.Mathlib.Nat.{div-lt-self}
+use native.Mathlib.Decide.{decLt}
+use borrow.Author.Tests.{le-leb, ne-eqb, lt-ltb, le-ltb, leb-true, eqb-true, eqb-false}
 use Rattle.model.specs.Shares.{pick}
 use Rattle.text.specs.Tests.{and-left, and-right}
 use Rattle.text.specs.Kinds.{kindOf}
 use Rattle.text.specs.Parsed.{Parsed, parsed, failed, mapped, word, then-parsed, mapped-parsed, word-parsed}
-use Rattle.text.specs.Numbers.{isDigit, digits, number, numberAfter, digitsOf, printNumber, most, held}
-use Rattle.text.specs.declared.Kind.{Kind}
+use Rattle.text.specs.Numbers.{isDigit, digits, number, numberAfter, digitsOf, printNumber, held}
 use Rattle.text.specs.declared.Kind.the-variants.{Opening, Closing, Space, Digit, Letter, Foreign}
 
 by-tests : (o c s d l : Bool) → isDigit (pick o Opening (pick c Closing (pick s Space (pick d Digit (pick l Letter Foreign))))) ≡ true → d ≡ true

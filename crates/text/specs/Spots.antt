@@ -1,5 +1,5 @@
 -- What the answers at a spot of a text say of the bytes from there on. Assumes nothing.
-use Prim.Native.Nat.{ℕ, _+_, _-_, _*_, _≤_, _<_, min}
+use Prim.Native.Nat.{ℕ, _+_, _-_, _*_, _≤_, _<_}
 use mathlib.Core.Bool.{Bool, true, false}
 use mathlib.Core.List.{List, [], _∷_}
 use mathlib.Core.Path.{_≡_, refl, sym, ap, _∙_}
@@ -12,7 +12,7 @@ use Rattle.text.specs.Printed.{digit-byte}
 use Rattle.model.specs.Shares.{pick}
 use Rattle.text.specs.Kinds.{kindOf}
 use Rattle.text.specs.Parsed.{Parsed, parsed, failed, mapped}
-use Rattle.text.specs.Numbers.{isDigit, digits, number, held, most}
+use Rattle.text.specs.Numbers.{isDigit, digits, number, held}
 use Rattle.text.specs.declared.Step.{Step}
 use Rattle.text.specs.declared.Step.the-variants.{To, Stop}
 use Rattle.text.specs.declared.Number.{Number}
@@ -103,6 +103,7 @@ number-first (b ∷ s) d h =
           rw (e .0, ne-eqb b 48 p, ne-eqb d 0 (λ z. p (omega (arith, e .1))), e .1) (sym (held-digits d s) ∙ rw low)
     ]
 
+-- no digit, no number
 pub number-none : (s : List ℕ) → firstDigit s ≡ Nothing → number s ≡ failed
 unfolding firstDigit number
 number-none [] h = refl

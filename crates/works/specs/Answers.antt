@@ -22,6 +22,7 @@ pub settled-answer : {outcome : Outcome} {table : Table} {passes : ℕ} → outc
     → (Settled passes ≡ answerOf outcome) × (table ≡ tableAfter outcome table)
 settled-answer is = rw is (refl, refl)
 
+-- and from one that is refused
 pub refused-answer : {outcome : Outcome} {number place passes : ℕ} → outcome ≡ refused number place passes
     → (table : Table) → (NoPlan number place passes ≡ answerOf outcome) × (table ≡ tableAfter outcome table)
 refused-answer is table = rw is (refl, refl)

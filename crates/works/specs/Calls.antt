@@ -21,6 +21,7 @@ pub record Settlement : Type 0 where
   pub lows : List ℕ
   pub highs : List ℕ
 
+-- a call with this answer and these lists
 abbrev pub settlement : Settling → List ℕ → List ℕ → Settlement
 settlement answer lows highs = record { answer = answer; lows = lows; highs = highs }
 

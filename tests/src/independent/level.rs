@@ -58,7 +58,7 @@ pub fn has_shares(lows: &[u64], highs: &[u64], total: u64) -> bool {
 }
 
 /// v moved into a range. (Written with min and max it takes three times as long.)
-fn clamp(low: u64, high: u64, v: u64) -> u64 {
+pub fn clamp(low: u64, high: u64, v: u64) -> u64 {
     if v < low {
         low
     } else if v > high {

@@ -6,13 +6,18 @@ use crate::answers::{Deviation, Limit, Limits, Refusal, Spread};
 
 /// Narrows the ranges to the values that some plan takes; on a refusal they are as they were.
 pub fn narrow(lows: &mut [u64], highs: &mut [u64], total: u64, limits: Limits) -> Result<(), Refusal> {
+    check_lists(lows, highs, total, limits)?;
+    narrow_members(lows, highs, total, limits).map_err(|number| Refusal { number, place: 0 })
+}
+
+/// Refusals 1, 4 and 7 for the lists, the total and the limits.
+pub fn check_lists(lows: &[u64], highs: &[u64], total: u64, limits: Limits) -> Result<(), Refusal> {
     check_shape(lows, highs)?;
     check_numbers(lows, highs)?;
     check_top(total, GREATEST_TOTAL)?;
     check_limit(limits.deviation, GREATEST_DEVIATION)?;
     check_limit(limits.spread, GREATEST_SPREAD)?;
-    check_order(lows, highs)?;
-    narrow_members(lows, highs, total, limits).map_err(|number| Refusal { number, place: 0 })
+    check_order(lows, highs)
 }
 
 /// Refusal 4 for a limit.

@@ -8,6 +8,7 @@ pub mod level;
 pub mod lines;
 pub mod lists;
 pub mod narrow;
+pub mod program;
 pub mod read;
 pub mod report;
 pub mod settle;

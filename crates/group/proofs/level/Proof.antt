@@ -25,7 +25,8 @@ module _ (c : tie.After-enum-told) where
   abbrev start : tie.Start
   start = c .before .before .before .before .before .before
 
-  passed : checkLists (start .args .lows .now) (start .args .highs .now) (length (start .args .plan .now)) (leb (start .args .total) greatestTotal) ≡ Passed
+  passed : checkLists (start .args .lows .now) (start .args .highs .now) (length (start .args .plan .now))
+      (leb (start .args .total) greatestTotal) ≡ Passed
   passed =
       let answer = c .before .before .check-lists .ensures in
       let told = c .enum-told .given in
@@ -43,7 +44,9 @@ same-length c = search needs
 
 returns-2 : tie.Need-returns-2
 unfolding levelling
-returns-2 c = (rw (passed (c .before .before .before .before)) (c .before .before .level-core .ensures .0), c .before .before .level-core .ensures .1)
+returns-2 c =
+    let core = c .before .before .level-core .ensures in
+    (rw (passed (c .before .before .before .before)) (core .0), core .1)
 
 pub level-spec : {M : Type 1} → statement M
 level-spec =

@@ -4,11 +4,11 @@ use borrow.Author.Tests.{not-true, not-false}
 use native.Mathlib.Omega.{arith}
 use Prim.Native.Nat.{ℕ}
 use mathlib.Core.Bool.{true}
+use mathlib.Core.List.{List}
 use mathlib.Core.Path.{_≡_, refl}
 use Rattle.model.specs.Levels.{topped, levelled}
 use Rattle.model.specs.Plans.{hasShares}
 use Rattle.model.specs.Laws.Level.{level-share}
-use Rattle.model.specs.Laws.Levelled.{levelled-adds}
 use Rattle.model.specs.declared.Checked.the-variants.{Valid}
 use Rattle.group.specs.Sound.{HasShares, has-shares, levelled-is, levelled-total, levelled-length}
 use Rattle.group.specs.Levelling.{levelledTo, valid-share, levelled-answer}
@@ -37,7 +37,8 @@ module _ (c : tie.Else1) where
 valid : (c : tie.After-new) → c .new .result ≡ Valid (record { copies = c .before .level-at .result })
 valid c =
     let s = start (c .before .before) in
-    valid-share _ _ (rw (c .before .level-at .ensures) (level-share (s .args .lows .now) (s .args .highs .now) (s .args .total))) (c .new .ensures)
+    let small = level-share (s .args .lows .now) (s .args .highs .now) (s .args .total) in
+    valid-share _ _ (rw (c .before .level-at .ensures) small) (c .new .ensures)
 
 level-at-requires : tie.Need-level-at-requires
 level-at-requires c κs = shared c
@@ -64,7 +65,8 @@ remainder-at-requires c κs = (shared (c .before .before .before .before .before
 figures-at-requires : tie.Need-figures-at-requires
 figures-at-requires c κs =
     let exists = c .before .before .before .before .before .before in
-    (start exists .pre .0, levelled-total (shared exists) _ _ (c .before .before .before .before .before .level-at .ensures) (c .remainder-at .ensures))
+    let levels = c .before .before .before .before .before in
+    (start exists .pre .0, levelled-total (shared exists) _ _ (levels .level-at .ensures) (c .remainder-at .ensures))
 
 fill-plan-requires : tie.Need-fill-plan-requires
 fill-plan-requires c κs = search needs
@@ -79,9 +81,14 @@ returns-3 c =
     let levels = known .before .before .before in
     let s = start (levels .before) in
     let figures = c .before .before .before .before .before .before in
-    let found : topped (s .args .lows .now) (s .args .highs .now) (levels .level-at .result) (figures .before .remainder-at .result) ≡ levelled (s .args .lows .now) (s .args .highs .now) (s .args .total) =
-    levelled-is _ _ _ _ _ (levels .level-at .ensures) (figures .before .remainder-at .ensures) in
-    (levelled-answer _ _ _ _ _ _ _ (exist (levels .before)) (levels .level-at .ensures) (valid (known .before .before)) (known .level .given .1) (rw (← found) (figures .figures-at .ensures)), rw (levelled-length (s .pre .0), ← found) (c .before .before .fill-plan .ensures))
+    let left = figures .before .remainder-at .result in
+    let shares : List ℕ = topped (s .args .lows .now) (s .args .highs .now) (levels .level-at .result) left in
+    let found : shares ≡ levelled (s .args .lows .now) (s .args .highs .now) (s .args .total) =
+    levelled-is _ _ _ _ _ (levels .level-at .ensures) (figures .before .remainder-at .ensures) in (
+      levelled-answer _ _ _ _ _ _ _ (exist (levels .before)) (levels .level-at .ensures) (valid (known .before .before))
+          (known .level .given .1) (rw (← found) (figures .figures-at .ensures)),
+      rw (levelled-length (s .pre .0), ← found) (c .before .before .fill-plan .ensures),
+    )
 
 pub level-core-spec : {M : Type 1} → statement M
 level-core-spec =

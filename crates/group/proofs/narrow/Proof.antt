@@ -38,7 +38,8 @@ module _ (c : tie.After-enum-told) where
   abbrev start : tie.Start
   start = c .before .before .before .before .before .before .before .before
 
-  passed : checkLists (start .args .lows .now) (start .args .highs .now) (length (start .args .lows .now)) (amountsWithin (start .args .total) (start .args .limits)) ≡ Passed
+  passed : checkLists (start .args .lows .now) (start .args .highs .now) (length (start .args .lows .now))
+      (amountsWithin (start .args .total) (start .args .limits)) ≡ Passed
   passed =
       let a = c .before .before in
       let answer = a .check-lists .ensures in

@@ -1,17 +1,15 @@
 -- The numbers passed are copied; the rest is as it was. Assumes nothing.
-use Prim.Native.Nat.{ℕ, suc, _+_, _-_, _≤_, _<_}
+use Prim.Native.Nat.{ℕ, _+_, _-_, _≤_, _<_}
 use mathlib.Core.List.{List, _++_, _∷_, []}
 use mathlib.Core.Path.{_≡_, refl, sym, ap, _∙_}
 use native.Mathlib.Numerals.{add-one}
-use lib.ListN.{length, getD, set, take, drop, length-append, length-drop, length-take}
+use lib.ListN.{length, getD, set, take, drop, length-append, length-drop}
 use lib.Seq.{take-suc, length-take-le}
 use Rattle.job.specs.Flat.{put-behind}
 use native.Mathlib.Omega.{arith}
 use borrow.Author.Needs.{needs}
 use Rattle.job.proofs.copy_front.Statement.{statement}
 use Rattle.job.proofs.copy_front.Tie as tie
-use Rattle.job.proofs.copy_front.Reads as reads
-use Rattle.job.proofs.copy_front.Lts as lts
 
 module _ (from to₀ : List ℕ) (i : ℕ) (f : i ≤ length from) (t : i ≤ length to₀) where
   long : length (take i from ++ drop i to₀) ≡ length to₀

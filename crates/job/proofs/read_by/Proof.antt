@@ -1,19 +1,12 @@
 -- Scanned, measured against the table, and copied. Assumes nothing.
-use Prim.Native.Nat.{ℕ, _+_, _≤_, _<_}
-use mathlib.Core.List.{List, _++_}
-use mathlib.Core.Path.{_≡_, refl, sym, ap, _∙_}
+use mathlib.Core.Path.{sym, ap, _∙_}
 use lib.ListN.{length, drop, length-append}
-use Rattle.job.specs.Job.{Job, accepted, readJob}
+use Rattle.job.specs.Job.{readJob}
 use Rattle.job.specs.Reading.{filled-refused, filled-accepted, accepted-by, refused-by, table-refused, table-short, table-short-highs, table-fits}
 use native.Mathlib.Omega.{arith}
 use borrow.Author.Needs.{needs}
 use Rattle.job.proofs.read_by.Statement.{statement}
 use Rattle.job.proofs.read_by.Tie as tie
-use Rattle.job.proofs.read_by.Reads as reads
-use Rattle.job.proofs.read_by.Lts as lts
-use Rattle.job.proofs.copy_front.Reads as copy-front-reads
-use Rattle.job.proofs.refused.Reads as refused-reads
-use Rattle.job.proofs.scan.Reads as scan-reads
 
 scan-requires : tie.Need-scan-requires
 scan-requires c κs = search needs

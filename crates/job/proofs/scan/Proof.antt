@@ -1,17 +1,11 @@
 -- At each turn the lines taken are a job's. A turn spends bytes of the text. Assumes nothing.
-use Prim.Native.Nat.{ℕ, _≤_, _<_}
-use mathlib.Core.List.{List}
-use mathlib.Core.Path.{_≡_, refl, sym, ap, _∙_}
+use mathlib.Core.Path.{sym, _∙_}
 use lib.ListN.{length, drop}
 use Rattle.job.specs.Scanning.{Going, start, line-refused, no-unit, some-unit, too-long, done, scanned-refused, scanned-accepted, on-line, off-line}
 use native.Mathlib.Omega.{arith}
 use borrow.Author.Needs.{needs}
 use Rattle.job.proofs.scan.Statement.{statement}
 use Rattle.job.proofs.scan.Tie as tie
-use Rattle.job.proofs.scan.Reads as reads
-use Rattle.job.proofs.scan.Lts as lts
-use Rattle.job.proofs.refused.Reads as refused-reads
-use Rattle.job.proofs.steps.take_line.Reads as take-line-reads
 
 abbrev Inv-loop : tie.InvT-loop
 Inv-loop text lows₀ highs₀ flat₀ at₀ progress₀ lows highs flat at progress = Going text lows₀ highs₀ flat₀ lows highs flat at progress

@@ -1,17 +1,15 @@
 -- A byte past the end is none; one that is there is a digit exactly by its kind. Assumes nothing.
-use Prim.Native.Nat.{ℕ, _≤_, _<_}
+use Prim.Native.Nat.{ℕ, _<_}
 use mathlib.Core.Logic.{⊎-elim}
 use mathlib.Core.Bool.{false}
 use mathlib.Core.List.{List, [], _∷_}
 use mathlib.Core.Path.{_≡_, refl, sym, _∙_, ap}
 use native.Mathlib.Omega.{arith}
 use borrow.Author.Needs.{needs}
-use borrow.Author.Tests.{eqb-false}
-use lib.ListN.{length, getD, drop, drop-of-length-le}
+use lib.ListN.{length, drop-of-length-le}
 use lib.Seq.{drop-cons}
 use types.Run.{OneOf}
 use denote.Enum.Declared.{tagOf}
-use Rattle.text.specs.Kinds.{kindOf}
 use Rattle.text.specs.Numbers.{isDigit}
 use Rattle.text.specs.Printed.{digit-byte}
 use Rattle.text.specs.Spots.{firstDigit}
@@ -20,9 +18,6 @@ use Rattle.text.specs.declared.Kind.the-variants.{Opening, Closing, Spac
 use Rattle.text.proofs.Kind.{the-type}
 use Rattle.text.proofs.digit_at.Statement.{statement}
 use Rattle.text.proofs.digit_at.Tie as tie
-use Rattle.text.proofs.digit_at.Reads as reads
-use Rattle.text.proofs.digit_at.Lts as lts
-use Rattle.text.proofs.kind_of.Reads as kind-of-reads
 
 not-digit : (k : Kind) → OneOf (0 ∷ 1 ∷ 2 ∷ 4 ∷ 5 ∷ []) (tagOf the-type k) → isDigit k ≡ false
 not-digit Opening h = refl

@@ -1,22 +1,16 @@
 -- The digits passed are held in the value. Assumes nothing.
-use Prim.Native.Nat.{ℕ, _+_, _-_, _*_, _≤_, _<_}
-use mathlib.Core.List.{List, [], _∷_}
-use mathlib.Core.Path.{_≡_, refl, sym, _∙_, ap}
-use native.Mathlib.Numerals.{add-one}
-use lib.ListN.{length, getD, drop, drop-of-length-le}
-use lib.Seq.{drop-cons, drop-drop}
+use Prim.Native.Nat.{ℕ, _-_, _≤_}
+use mathlib.Core.List.{List, []}
+use mathlib.Core.Path.{_≡_, refl, sym, _∙_}
+use lib.ListN.{length, drop, drop-of-length-le}
+use lib.Seq.{drop-drop}
 use Rattle.text.specs.Numbers.{held, most}
-use Rattle.text.specs.Parsed.{parsed}
 use Rattle.text.specs.Spots.{firstDigit, digitsHeld, digit-less, digit-on, digit-none, digit-end}
 use Rattle.text.specs.declared.Found.the-variants.{Is, Nothing}
 use borrow.Author.Needs.{needs}
 use native.Mathlib.Omega.{arith}
 use Rattle.text.proofs.digits_from.Statement.{statement}
 use Rattle.text.proofs.digits_from.Tie as tie
-use Rattle.text.proofs.digits_from.Reads as reads
-use Rattle.text.proofs.digits_from.Lts as lts
-use Rattle.text.proofs.digit_at.Reads as digit-at-reads
-use Rattle.text.proofs.grown.Reads as grown-reads
 
 abbrev Inv-loop : tie.InvT-loop
 Inv-loop text from first at₀ value₀ at value =

@@ -1,7 +1,7 @@
 -- Each arm knows the numbers it stands for, and the last that the byte is none of them. Assumes nothing.
 use Prim.Native.Nat.{ℕ}
 use native.Mathlib.Omega.{arith}
-use borrow.Author.Tests.{le-leb, lt-leb, eq-eqb, ne-eqb}
+use borrow.Author.Tests.{le-leb, lt-leb, ne-eqb}
 use Rattle.text.proofs.kind_of.Statement.{statement}
 use Rattle.text.proofs.kind_of.Tie as tie
 

@@ -8,7 +8,7 @@ use native.Mathlib.Nat.{le-of-suc-le-suc}
 use native.Mathlib.Omega.{arith}
 use borrow.Author.Tests.{eq-eqb, not-true}
 use lib.Dec.{eqb}
-use lib.ListN.{length, getD, drop}
+use lib.ListN.{length, getD}
 use Rattle.job.specs.Distinct.{below-at}
 use Rattle.job.specs.Flat.{flatten}
 use Rattle.job.specs.Job.{Job, holds, distinct, accepted, readJob}

@@ -1,6 +1,6 @@
 -- The promises of settling for the call on a text: its answer, and the table that it leaves. Assumes nothing.
 use Prim.Native.Nat.{ℕ, suc, _≤_}
-use mathlib.Core.List.{List, _++_, List·Memᴰ}
+use mathlib.Core.List.{List, _++_}
 use mathlib.Core.Logic.{_↔_}
 use mathlib.Core.Path.{_≡_, refl, sym, ap, _∙_}
 use native.Mathlib.Omega.{arith}
@@ -9,7 +9,6 @@ use lib.Seq.{length-take-le, take-at, drop-at}
 use Rattle.group.specs.declared.Check.the-variants.{Passed}
 use Rattle.job.specs.Job.{Job, accepted, readJob}
 use Rattle.model.specs.Groups.{Group}
-use Rattle.works.specs.Answers.{answerOf, tableAfter}
 use Rattle.works.specs.Calls.{Settlement, settlement, checkTable, leaving, settleJob, settleText}
 use Rattle.works.specs.Consistency.{Sound, Apart, Consistent, NoneInside}
 use Rattle.works.specs.Settling.{Outcome, settle}
@@ -20,7 +19,7 @@ use Rattle.works.specs.Laws.Accepted.{accepted-groups}
 use Rattle.works.specs.Laws.Checked.{passed-room, passed-ranges}
 use Rattle.works.specs.Laws.Inside.{same-ranges}
 use Rattle.works.specs.Laws.Refusals.{WantOfPlan, settle-refusal}
-use Rattle.works.specs.Laws.Settled.{settled-inside, settled-consistent, settled-greatest, untouched, refused-exactly, passes-bound, settled-again}
+use Rattle.works.specs.Laws.Settled.{settled-inside, settled-consistent, settled-greatest, untouched, refused-exactly, passes-bound}
 
 -- 01: a settling "that the checks ahead of 11 let through": the text is that of a job, and the table passes
 pub record Cleared (text lows highs : List ℕ) (scratch : ℕ) : Type 0 where
@@ -43,9 +42,11 @@ passesIn (NoPlan number place passes) = passes
 passesIn (Refused refusal) = 0
 
 module _ {text lows highs : List ℕ} {scratch : ℕ} (cleared : Cleared text lows highs scratch) where
+  -- the job's groups
   abbrev pub groups : List Group
   groups = cleared .found .groups
 
+  -- the number of its units
   abbrev pub count : ℕ
   count = length (cleared .found .lows)
 
@@ -57,9 +58,11 @@ module _ {text lows highs : List ℕ} {scratch : ℕ} (cleared : Cleared text lo
   abbrev pub called : Settlement
   called = settleText text lows highs scratch
 
+  -- the ranges of the units after it
   abbrev pub after : Table
   after = firstOf count (called .lows) (called .highs)
 
+  -- the groups are sound over the opening table
   pub opening-sound : Sound groups opening
   opening-sound =
       accepted-groups text (cleared .found) (cleared .reads) (passed-ranges count lows highs scratch (cleared .passes) .ranges)
@@ -82,6 +85,7 @@ module _ {text lows highs : List ℕ} {scratch : ℕ} (cleared : Cleared text lo
   first-count is =
       settled-inside opening-sound is .sameLows ∙ length-take-le count lows (passed-room count lows highs scratch (cleared .passes) .forLows)
 
+  -- highs too
   pub second-count : {final : Table} {passes : ℕ} → settle groups opening ≡ Outcome.settled final passes → length (final .highs) ≡ count
   second-count is =
       settled-inside opening-sound is .sameHighs ∙ length-take-le count highs (passed-room count lows highs scratch (cleared .passes) .forHighs)
@@ -98,6 +102,7 @@ module _ {text lows highs : List ℕ} {scratch : ℕ} (cleared : Cleared text lo
   by-outcome (Outcome.refused number place passes) is =
       Ends.refused number place passes is (called-is ∙ rw (is, take-append-drop count lows, take-append-drop count highs))
 
+  -- the call ends so
   pub ends : Ends
   ends = by-outcome (settle groups opening) refl
 
@@ -111,6 +116,7 @@ module _ {text lows highs : List ℕ} {scratch : ℕ} (cleared : Cleared text lo
 
   -- where the answer is settled
   module _ {passes : ℕ} (answers : called .answer ≡ Settled passes) where
+    -- the outcome of settling is the table that the call leaves
     pub called-settled : settle groups opening ≡ Outcome.settled after passes
     called-settled = settles ends
       where

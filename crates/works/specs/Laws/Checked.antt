@@ -1,15 +1,15 @@
 -- A table that passes the checks is ready for settling. Assumes nothing.
 use Prim.Native.Nat.{ℕ, suc, _*_, _≤_}
-use mathlib.Core.Bool.{Bool, true, false, not}
-use mathlib.Core.List.{List, List·Memᴰ, _++_}
-use mathlib.Core.Path.{_≡_, refl, sym}
+use mathlib.Core.Bool.{Bool, true, false}
+use mathlib.Core.List.{List, _++_}
+use mathlib.Core.Path.{_≡_, refl}
 use native.Mathlib.Omega.{arith}
 use borrow.Author.Tests.{leb-true, le-leb, eq-eqb, not-false}
 use lib.Dec.{leb}
 use lib.ListN.{length, take, drop}
 use lib.Seq.{length-take-le}
 use Rattle.group.specs.Checks.{firstFailing, areShares, firstBeyond, firstCrossed, sized, refuseIf, checkLists}
-use Rattle.group.specs.Passed.{passed-sound}
+use Rattle.group.specs.Passed.{refuse-passed, passed-sound}
 use Rattle.group.specs.Sound as one
 use Rattle.group.specs.declared.Check.{Check}
 use Rattle.group.specs.declared.Check.the-variants.{Passed, Failed}
@@ -17,7 +17,7 @@ use Rattle.model.specs.Laws.Tests.{both, both-left, both-right}
 use Rattle.model.specs.Shares.{Ranges, greatestShare}
 use Rattle.model.specs.declared.Refusal.{Refusal}
 use Rattle.works.specs.Answers.{answerOf, tableAfter}
-use Rattle.works.specs.Calls.{settlement, hasRoom, checkTable, leaving, settleJob}
+use Rattle.works.specs.Calls.{settlement, hasRoom, checkTable, settleJob}
 use Rattle.works.specs.Flat.{groupsIn}
 use Rattle.works.specs.Ready.{Opening, Prepared}
 use Rattle.works.specs.Settling.{settle}
@@ -31,6 +31,7 @@ pub record Roomy (units lows highs scratch : ℕ) : Type 0 where
   pub forHighs : units ≤ highs
   pub forScratch : 8 * units ≤ scratch
 
+-- they are so where the test holds
 pub roomy : (units lows highs scratch : ℕ) → hasRoom units lows highs scratch ≡ true → Roomy units lows highs scratch
 roomy units lows highs scratch held =
     let others = both-right (leb units lows) _ held in
@@ -39,10 +40,6 @@ roomy units lows highs scratch held =
       forHighs = leb-true _ _ (both-left _ _ others);
       forScratch = leb-true _ _ (both-right (leb units highs) _ others);
     }
-
-refuse-passed : (b : Bool) (number place : ℕ) (next : Check) → refuseIf b number place next ≡ Passed → (b ≡ false) × (next ≡ Passed)
-refuse-passed true number place next e = (cc, cc)
-refuse-passed false number place next e = (refl, e)
 
 -- where every range passes a test, none is the first to fail
 all-pass : (test : ℕ → ℕ → Bool) (place : ℕ) → ((low high : ℕ) → low ≤ high → high ≤ greatestShare → test low high ≡ true)
@@ -74,9 +71,11 @@ module _ (units : ℕ) (lows highs : List ℕ) (scratch : ℕ) where
     unfolding checkTable
     parts = let both = refuse-passed _ _ _ _ passes in (not-false _ (both .0), both .1)
 
+    -- the lists are long enough
     pub passed-room : Roomy units (length lows) (length highs) scratch
     passed-room = roomy units (length lows) (length highs) scratch (parts .0)
 
+    -- the ranges are those of one group
     pub passed-ranges : one.Sound (take units lows) (take units highs)
     passed-ranges = passed-sound (take units lows) (take units highs) units true (parts .1) .0
 

@@ -9,7 +9,6 @@ use lib.ListN.{length}
 use Rattle.model.specs.Groups.{Group}
 use Rattle.model.specs.Plans.{hasShares, hasPlan, turnOf}
 use Rattle.model.specs.Shares.{pick}
-use Rattle.model.specs.declared.Turn.{Turn}
 use Rattle.model.specs.declared.Turn.the-variants.{Narrowed, NoPlan}
 use Rattle.works.specs.Settling.{Revised, Passed, Outcome, revisedBy, narrowed, revise, passFrom, pass, settleFrom, settle}
 use Rattle.works.specs.Tables.{Table, sameTable, width, lowsOf, highsOf}

@@ -3,17 +3,17 @@ use Prim.Native.Nat.{ℕ}
 use mathlib.Core.List.{List, List·Memᴰ}
 use mathlib.Core.Logic.{_↔_}
 use mathlib.Core.Option.{none, some}
-use mathlib.Core.Path.{_≡_, refl, sym, ap, _∙_}
+use mathlib.Core.Path.{_≡_, sym, ap, _∙_}
 use native.Mathlib.Omega.{arith}
-use lib.ListN.{length, take, drop, length-append, length-drop, take-append-drop}
+use lib.ListN.{take-append-drop}
 use Rattle.job.specs.Sound.{accepted-sound}
 use Rattle.model.specs.Groups.{Group}
 use Rattle.works.specs.Calls.{Settlement, settlement, settleText}
-use Rattle.works.specs.Settling.{Outcome, settledTable, settle}
+use Rattle.works.specs.Settling.{settledTable, settle}
 use Rattle.works.specs.Tables.{Table}
 use Rattle.works.specs.declared.Settling.the-variants.{Settled}
-use Rattle.works.specs.Laws.Called.{Cleared, Ends, groups, count, opening, called, after, opening-sound, called-is, first-count, second-count, ends, called-settled, called-consistent, called-lengths, says, WithoutPlan, settled-not}
-use Rattle.works.specs.Laws.Checked.{Roomy, passed-room, ranges-pass}
+use Rattle.works.specs.Laws.Called.{Cleared, Ends, groups, count, opening, called, after, opening-sound, called-is, ends, called-settled, called-consistent, called-lengths, says, WithoutPlan, settled-not}
+use Rattle.works.specs.Laws.Checked.{passed-room, ranges-pass}
 use Rattle.works.specs.Laws.Settled.{settled-again, any-order}
 
 -- over the settled table

@@ -1,7 +1,7 @@
 -- Settling step by step: what is left of a pass after some turns, and of a settling after some passes. Assumes nothing.
 use Prim.Native.Nat.{ℕ, zero, suc, _+_, _≤_, _<_}
 use mathlib.Core.Bool.{Bool, true, false}
-use mathlib.Core.List.{List, [], _∷_, List·Memᴰ·head, List·Memᴰ·tail}
+use mathlib.Core.List.{List, _∷_}
 use mathlib.Core.Logic.{_≢_}
 use mathlib.Core.Path.{_≡_, refl, sym, ap, _∙_}
 use native.Mathlib.Numerals.{add-one}
@@ -17,7 +17,7 @@ use Rattle.works.specs.Consistency.{Sound}
 use Rattle.works.specs.Flat.{groupAt, afterFirst, groupsIn, Holds}
 use Rattle.works.specs.Ready.{Turning, Opening}
 use Rattle.works.specs.Settling.{Revised, Passed, Outcome, revisedBy, revise, passFrom, pass, settleFrom, settle}
-use Rattle.works.specs.Tables.{Table, sameTable, units, width, Inside}
+use Rattle.works.specs.Tables.{Table, sameTable, units, width}
 use Rattle.works.specs.Laws.Inside.{same-table, table-same, widths-sums, widths-same}
 use Rattle.works.specs.Laws.Passes.{After, first, sound-inside, sound-turn, pass-after}
 use Rattle.works.specs.Laws.Turns.{turn-inside}
@@ -37,10 +37,11 @@ module _ (flat : List ℕ) (count : ℕ) where
     pub sameUnits : units table ≡ units start
     pub rest : passFrom (suc place) (groupsIn left (drop at flat)) table ≡ pass (groupsIn count flat) start
 
-  -- the table's ranges are those of one group, and their widths add up to a total
+  -- the table's ranges are those of one group
   pub opening-sound : {table : Table} → Opening flat count table → one.Sound (table .lows) (table .highs)
   opening-sound opening = one.sound (opening .sound .valid) (opening .few)
 
+  -- their widths add up to at most a total
   pub width-small : {table : Table} → Opening flat count table → width table ≤ one.greatestTotal
   width-small opening = omega (arith, widths-sums (opening .sound .valid), one.highs-small (opening-sound opening))
 
@@ -76,6 +77,7 @@ module _ (flat : List ℕ) (count : ℕ) where
     abbrev from : List ℕ
     from = drop at flat
 
+    -- the group, and what is left of the pass with it
     pub record Next : Type 0 where
       pub left : ℕ
       pub counted : suc place + left ≡ count
@@ -85,6 +87,7 @@ module _ (flat : List ℕ) (count : ℕ) where
       pub sameUnits : units table ≡ units start
       pub rest : passFrom (suc place) (groupAt from ∷ groupsIn left (afterFirst from)) table ≡ pass (groupsIn count flat) start
 
+    -- where turns are left
     pub passing-next : Passing start table at place → place < count → Next
     unfolding groupsIn
     passing-next passing some = next (passing .left) (passing .counted) (passing .holds) (passing .sound) (passing .rest)
@@ -146,6 +149,7 @@ module _ (flat : List ℕ) (count : ℕ) where
     pub enough : width table < more
     pub rest : settleFrom more passes (groupsIn count flat) table ≡ settle (groupsIn count flat) opening
 
+  -- a settling starts
   pub unsettled-start : {table : Table} → Opening flat count table → Unsettled table table 0
   unfolding settle
   unsettled-start {table} opening = record {

@@ -32,6 +32,7 @@ module _ {table : Table} {group : Group} (turning : Turning table group) where
   pub members-named : Named (units table) (group .members)
   members-named = record { below = turning .sound .below }
 
+  -- and of the highs alone
   pub highs-named : Named (length (table .highs)) (group .members)
   highs-named = rw (ranges-length (turning .valid)) members-named
 
@@ -44,9 +45,11 @@ module _ {table : Table} {group : Group} (turning : Turning table group) where
 
 -- a group that a flat list holds whole has as many members as it says, and at most 256
 module _ (flat : List ℕ) (whole : 4 + getD flat 3 0 ≤ length flat) where
+  -- as many as it says
   pub size-read : size (groupAt flat) ≡ getD flat 3 0
   size-read = length-take-le (getD flat 3 0) (drop 4 flat) (omega (arith, length-drop 4 flat))
 
+  -- at most 256
   pub count-few : {table : Table} → Turning table (groupAt flat) → getD flat 3 0 ≤ one.greatestCount
   count-few turning = omega (arith, size-read, size-few (turning .sound), turning .few)
 

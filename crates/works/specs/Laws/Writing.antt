@@ -14,6 +14,7 @@ pub record Filled (values was out : List ℕ) (k : ℕ) : Type 0 where
   pub size : length out ≡ length was
   pub written : out ≡ take k values ++ drop k was
 
+-- none is written yet
 pub filled-none : (values was : List ℕ) → Filled values was was 0
 filled-none values was = record { size = refl; written = refl }
 
@@ -26,6 +27,7 @@ next-written zero (v ∷ values) (w ∷ was) p q = refl
 next-written (suc k) (v ∷ values) (w ∷ was) p q =
     ap (λ (out : List ℕ). v ∷ out) (next-written k values was (le-of-suc-le-suc p) (le-of-suc-le-suc q))
 
+-- the value at k is written
 pub filled-more : {values was out : List ℕ} {k : ℕ} → Filled values was out k → k < length values → k < length was
     → (v : ℕ) → v ≡ getD values k 0 → Filled values was (set out k v) (k + 1)
 filled-more {values} {was} {out} {k} held p q v e = record {
@@ -33,6 +35,7 @@ filled-more {values} {was} {out} {k} held p q v e = record {
   written = rw (held .written, e, add-one k) (next-written k values was p q);
 }
 
+-- all are written over a list of as many numbers
 pub filled-all : {values was out : List ℕ} {k : ℕ} → Filled values was out k → length was ≡ length values → k ≡ length values → out ≡ values
 filled-all {values} {was} held sizes end =
     rw (held .written, end, take-length values, drop-of-length-le was {i = length values} (omega arith), append-nil values)
@@ -42,9 +45,11 @@ pub record Scattered (members values was entries : List ℕ) (k : ℕ) : Type 0 
   pub size : length entries ≡ length was
   pub rest : scatter entries (drop k members) (drop k values) ≡ scatter was members values
 
+-- none is replaced yet
 pub scattered-none : (members values was : List ℕ) → Scattered members values was was 0
 scattered-none members values was = record { size = refl; rest = refl }
 
+-- the entry of member k is replaced
 pub scattered-more : {members values was entries : List ℕ} {k : ℕ} → Scattered members values was entries k
     → k < length members → length values ≡ length members
     → Scattered members values was (set entries (getD members k 0) (getD values k 0)) (k + 1)
@@ -54,6 +59,7 @@ scattered-more {members} {values} {was} {entries} {k} held p q = record {
   rest = rw (← held .rest, add-one k, drop-cons members k 0 p, drop-cons values k 0 (omega arith));
 }
 
+-- all are replaced
 pub scattered-all : {members values was entries : List ℕ} {k : ℕ} → Scattered members values was entries k
     → length members ≤ k → entries ≡ scatter was members values
 unfolding scatter

@@ -41,10 +41,12 @@ refused-requires-2 c κs = search needs
 returns-2 : tie.Need-returns-2
 unfolding checkLists
 returns-2 c =
-    rw (passed-1 (c .before .before .before), ← c .before .before .first-beyond .ensures, lt-ltb 0 _ (c .before .if2 .taken)) (c .refused2 .ensures)
+    rw (passed-1 (c .before .before .before), ← c .before .before .first-beyond .ensures, lt-ltb 0 _ (c .before .if2 .taken))
+    (c .refused2 .ensures)
 
 -- no unit's number is beyond its range
-passed-2 : (c : tie.Else2) → ltb 0 (firstBeyond (start (c .before .before) .args .lows .now) (start (c .before .before) .args .highs .now)) ≡ false
+passed-2 : (c : tie.Else2)
+    → ltb 0 (firstBeyond (start (c .before .before) .args .lows .now) (start (c .before .before) .args .highs .now)) ≡ false
 passed-2 c = rw (← c .before .first-beyond .ensures) (le-ltb 0 _ (c .if2 .left))
 
 refused-requires-3 : tie.Need-refused-requires-3
@@ -53,7 +55,8 @@ refused-requires-3 c κs = search needs
 returns-3 : tie.Need-returns-3
 unfolding checkLists
 returns-3 c =
-    rw (passed-1 (c .before .before .before .before), passed-2 (c .before .before), not-true (start (c .before .before .before .before) .args .amounts) (c .before .if3 .taken)) (c .refused3 .ensures)
+    let e = c .before .before .before .before in
+    rw (passed-1 e, passed-2 (c .before .before), not-true (start e .args .amounts) (c .before .if3 .taken)) (c .refused3 .ensures)
 
 first-crossed-requires : tie.Need-first-crossed-requires
 first-crossed-requires c κs = paired (c .before .before .before)
@@ -69,14 +72,26 @@ returns-4 : tie.Need-returns-4
 unfolding checkLists
 returns-4 c =
     let e = c .before .before .before in
-    rw (passed-1 (e .before .before .before), passed-2 (e .before), passed-3 e, ← c .before .before .first-crossed .ensures, lt-ltb 0 _ (c .before .if4 .taken))
+    rw (
+      passed-1 (e .before .before .before),
+      passed-2 (e .before),
+      passed-3 e,
+      ← c .before .before .first-crossed .ensures,
+      lt-ltb 0 _ (c .before .if4 .taken),
+    )
     (c .refused4 .ensures)
 
 returns-5 : tie.Need-returns-5
 unfolding checkLists
 returns-5 c =
     let e = c .before .before in
-    rw (passed-1 (e .before .before .before), passed-2 (e .before), passed-3 e, ← c .before .first-crossed .ensures, le-ltb 0 _ (c .if4 .left))
+    rw (
+      passed-1 (e .before .before .before),
+      passed-2 (e .before),
+      passed-3 e,
+      ← c .before .first-crossed .ensures,
+      le-ltb 0 _ (c .if4 .left),
+    )
 
 pub check-lists-spec : {M : Type 1} → statement M
 check-lists-spec =

@@ -3,10 +3,10 @@ use borrow.Author.Needs.{needs}
 use borrow.Author.Tests.{le-leb, lt-leb}
 use native.Mathlib.Omega.{arith}
 use mathlib.Core.Path.{_≡_, refl}
-use Prim.Native.Nat.{_+_, _-_, _≤_}
+use Prim.Native.Nat.{_-_, _≤_}
 use lib.ListN.{length, getD}
 use mathlib.Core.Bool.{true}
-use Rattle.group.specs.Checks.{firstFailing, areShares}
+use Rattle.group.specs.Checks.{areShares}
 use Rattle.group.specs.Passed.{NoneBefore, first-here, first-after, first-nowhere}
 use Rattle.group.proofs.checks.first_beyond.Statement.{statement}
 use Rattle.group.proofs.checks.first_beyond.Tie as tie
@@ -64,8 +64,11 @@ loop-again c =
     let s = c .before .before .before .before .before .before in
     let turn = c .before .before .before .before .before in
     let passes : areShares (getD (s .args .lows .now) (turn .loop .i) 0) (getD (s .args .highs .now) (turn .loop .i) 0) ≡ true =
-    rw (le-leb _ _ (c .before .before .if1 .left), le-leb _ _ (c .if2 .left)) in
-    (search needs, first-after areShares (s .args .lows .now) (s .args .highs .now) (turn .loop .i) (omega arith) (omega arith) (turn .loop .inv .1) passes)
+    rw (le-leb _ _ (c .before .before .if1 .left), le-leb _ _ (c .if2 .left)) in (
+      search needs,
+      first-after areShares (s .args .lows .now) (s .args .highs .now) (turn .loop .i) (omega arith) (omega arith) (turn .loop .inv .1)
+          passes,
+    )
 
 returns-3 : tie.Need-returns-3 Inv-loop μ-loop
 returns-3 c = first-nowhere areShares _ _ _ (c .loop-test .left) (c .before .loop .inv .1)

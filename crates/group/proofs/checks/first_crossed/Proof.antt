@@ -2,11 +2,10 @@
 use borrow.Author.Needs.{needs}
 use borrow.Author.Tests.{le-leb, lt-leb}
 use native.Mathlib.Omega.{arith}
-use mathlib.Core.Path.{_≡_, refl}
-use Prim.Native.Nat.{_+_, _-_, _≤_}
+use mathlib.Core.Path.{refl}
+use Prim.Native.Nat.{_-_, _≤_}
 use lib.Dec.{leb}
-use lib.ListN.{length, drop, drop-of-length-le}
-use Rattle.group.specs.Checks.{firstFailing}
+use lib.ListN.{length}
 use Rattle.group.specs.Passed.{NoneBefore, first-here, first-after, first-nowhere}
 use Rattle.group.proofs.checks.first_crossed.Statement.{statement}
 use Rattle.group.proofs.checks.first_crossed.Tie as tie
@@ -40,7 +39,8 @@ returns : tie.Need-returns Inv-loop μ-loop
 returns c =
     let s = c .before .before .before .before .before in
     let turn = c .before .before .before .before in
-    first-here leb (s .args .lows .now) (s .args .highs .now) (turn .loop .i) (omega arith) (omega arith) (turn .loop .inv .1) (lt-leb _ _ (c .if1 .taken))
+    first-here leb (s .args .lows .now) (s .args .highs .now) (turn .loop .i) (omega arith) (omega arith) (turn .loop .inv .1)
+    (lt-leb _ _ (c .if1 .taken))
 
 add-i : tie.Need-add-i Inv-loop μ-loop
 add-i c = search needs
@@ -51,8 +51,11 @@ loop-less c = search needs
 loop-again : tie.Need-loop-again Inv-loop μ-loop
 loop-again c =
     let s = c .before .before .before .before .before in
-    let turn = c .before .before .before .before in
-    (search needs, first-after leb (s .args .lows .now) (s .args .highs .now) (turn .loop .i) (omega arith) (omega arith) (turn .loop .inv .1) (le-leb _ _ (c .if1 .left)))
+    let turn = c .before .before .before .before in (
+      search needs,
+      first-after leb (s .args .lows .now) (s .args .highs .now) (turn .loop .i) (omega arith) (omega arith) (turn .loop .inv .1)
+          (le-leb _ _ (c .if1 .left)),
+    )
 
 returns-2 : tie.Need-returns-2 Inv-loop μ-loop
 returns-2 c = first-nowhere leb _ _ _ (c .loop-test .left) (c .before .loop .inv .1)

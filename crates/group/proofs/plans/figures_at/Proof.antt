@@ -58,7 +58,9 @@ shared-slice-read-clamp-2 : tie.Need-shared-slice-read-clamp-2 Inv-loop μ-loop
 shared-slice-read-clamp-2 c = search needs
 
 clamp-requires : tie.Need-clamp-requires Inv-loop μ-loop
-clamp-requires c κs = ranges-at (c .before .before .before .before .before .before .before .before .before .pre .0 .ranges) (c .before .before .before .before .before .before .loop .i) (omega arith) .0
+clamp-requires c κs =
+    let turn = c .before .before .before .before .before .before in
+    ranges-at (turn .before .before .before .pre .0 .ranges) (turn .loop .i) (omega arith) .0
 
 -- the shares, which are in the ranges, and their total
 module _ (s : tie.Start Inv-loop μ-loop) where
@@ -146,16 +148,23 @@ module _ (c : tie.After-loop Inv-loop μ-loop) where
   abbrev begun : tie.Start Inv-loop μ-loop
   begun = c .before .before .before .before
 
-  all : (f : ℕ → ℕ) (passed : ℕ) → Passed f (begun .args .lows .now) (begun .args .highs .now) (begun .args .v) (begun .args .left) (c .before .loop .rest) (c .before .loop .i) passed
+  abbrev end : tie.At-loop Inv-loop μ-loop
+  end = c .before
+
+  all : (f : ℕ → ℕ) (passed : ℕ)
+      → Passed f (begun .args .lows .now) (begun .args .highs .now) (begun .args .v) (begun .args .left) (end .loop .rest) (end .loop .i) passed
       → passed ≡ sumOf f (shares begun)
-  all f passed held = passed-all f (begun .args .lows .now) (begun .args .highs .now) (begun .args .v) (begun .args .left) (c .before .loop .rest) (c .before .loop .i) passed (c .loop-test .left) held
+  all f passed held =
+      passed-all f (begun .args .lows .now) (begun .args .highs .now) (begun .args .v) (begun .args .left) (end .loop .rest) (end .loop .i)
+      passed (c .loop-test .left) held
 
   squared : c .before .loop .squares ≡ sumOf (λ x. x * x) (shares begun)
   squared = all _ _ (c .before .loop .inv .2)
 
 mul-t25 : tie.Need-mul-t25 Inv-loop μ-loop
 mul-t25 c =
-    let small : c .before .loop .squares ≤ greatestCount * (greatestShare * greatestShare) = rw (squared c) (squares-small (begun c .pre .0) (within (begun c))) in
+    let small : c .before .loop .squares ≤ greatestCount * (greatestShare * greatestShare) =
+    rw (squared c) (squares-small (begun c .pre .0) (within (begun c))) in
     omega (arith, mul-le-mul (begun c .pre .0 .few) small)
 
 mul-t26 : tie.Need-mul-t26 Inv-loop μ-loop

@@ -1,4 +1,4 @@
--- The members before i are narrowed, and the levelled shares of the others are still to come. Assumes nothing.
+-- The ends of the members before i are written, and the levelled shares of the others are still to come. Assumes nothing.
 use borrow.Author.Needs.{needs}
 use native.Mathlib.Omega.{arith}
 use mathlib.Core.List.{List}
@@ -6,73 +6,69 @@ use mathlib.Core.Path.{_≡_, refl, sym, _∙_}
 use Prim.Native.Nat.{ℕ, _+_, _-_, _≤_, min}
 use lib.ListN.{length, getD}
 use Rattle.model.specs.Levels.{clamp, growth, topped, levelled}
+use Rattle.model.specs.Plans.{narrowedLow, narrowedHigh, narrowedLows, narrowedHighs}
 use Rattle.model.specs.Laws.Lists.{ranges-at}
+use Rattle.model.specs.Laws.Narrowing.{narrowedLows-length, narrowedHighs-length, narrowedLows-at, narrowedHighs-at}
 use Rattle.model.specs.Laws.Walk.{Ahead, ahead-share, ahead-step}
 use Rattle.group.specs.Sound.{levelled-is}
 use Rattle.group.specs.Bounds.{share-at-small}
-use Rattle.group.specs.Partly.{Partly, plan-shares, partly-none, partly-sound, partly-planned, partly-step, partly-all}
+use Rattle.group.specs.Tabled.{Filled, plan-shares, filled-none, filled-next, filled-all}
+use Rattle.group.specs.Edges.{Planned}
+use Rattle.group.specs.Ends.{levelled-planned, to-low, to-high, low-reached, high-reached}
 use Rattle.group.proofs.ranges.narrow_members.Statement.{statement}
 use Rattle.group.proofs.ranges.narrow_members.Tie as tie
 
 abbrev Inv-loop : tie.InvT-loop
-Inv-loop lows₀ highs₀ total limits v left₀ i₀ lows highs left i =
-    (i ≤ length lows₀) × Partly lows₀ highs₀ total limits i lows highs × Ahead lows₀ highs₀ v left₀ left i
+Inv-loop lows highs table total limits starts₀ stops₀ v left₀ i₀ starts stops left i =
+    (i ≤ length lows)
+    × Filled (length lows) (narrowedLow lows highs total limits) i starts
+    × Filled (length lows) (narrowedHigh lows highs total limits) i stops
+    × Ahead lows highs v left₀ left i
 
 abbrev μ-loop : tie.MeasureT-loop
-μ-loop lows₀ highs₀ total limits v left₀ i₀ lows highs left i = length lows₀ - i
+μ-loop lows highs table total limits starts₀ stops₀ v left₀ i₀ starts stops left i = length lows - i
 
 level-at-requires : tie.Need-level-at-requires Inv-loop μ-loop
-level-at-requires c κs = plan-shares (c .before .before .before .before .pre)
+level-at-requires c κs = plan-shares (c .before .before .before .before .before .pre .0)
 
 remainder-at-requires : tie.Need-remainder-at-requires Inv-loop μ-loop
-remainder-at-requires c κs =
-    (plan-shares (c .before .before .before .before .before .before .before .pre), c .before .before .level-at .ensures)
+remainder-at-requires c κs = (plan-shares (c .before .before .before .before .before .before .pre .0), c .level-at .ensures)
 
 loop-holds : tie.Need-loop-holds Inv-loop μ-loop
-loop-holds c = (search needs, partly-none (c .before .before .before .before .before .before .before .before .pre), refl)
+loop-holds c =
+    let s = c .before .before .before .before .before .before .before in
+    (search needs, filled-none (s .pre .1 .1 .0), filled-none (s .pre .1 .1 .1), refl)
 
-mul-extra : tie.Need-mul-extra Inv-loop μ-loop
-mul-extra c = search needs
+mul-low : tie.Need-mul-low Inv-loop μ-loop
+mul-low c = search needs
 
-slice-read-extra : tie.Need-slice-read-extra Inv-loop μ-loop
-slice-read-extra c = search needs
+shared-slice-read-low : tie.Need-shared-slice-read-low Inv-loop μ-loop
+shared-slice-read-low c = search needs
 
-mul-extra-2 : tie.Need-mul-extra-2 Inv-loop μ-loop
-mul-extra-2 c = search needs
+mul-high : tie.Need-mul-high Inv-loop μ-loop
+mul-high c = search needs
 
-slice-read-extra-2 : tie.Need-slice-read-extra-2 Inv-loop μ-loop
-slice-read-extra-2 c = search needs
+shared-slice-read-high : tie.Need-shared-slice-read-high Inv-loop μ-loop
+shared-slice-read-high c = search needs
 
 extra-requires : tie.Need-extra-requires Inv-loop μ-loop
 extra-requires c κs = search needs
 
-mul-clamp : tie.Need-mul-clamp Inv-loop μ-loop
-mul-clamp c = search needs
-
-slice-read-clamp : tie.Need-slice-read-clamp Inv-loop μ-loop
-slice-read-clamp c = search needs
-
-mul-clamp-2 : tie.Need-mul-clamp-2 Inv-loop μ-loop
-mul-clamp-2 c = search needs
-
-slice-read-clamp-2 : tie.Need-slice-read-clamp-2 Inv-loop μ-loop
-slice-read-clamp-2 c = search needs
-
 clamp-requires : tie.Need-clamp-requires Inv-loop μ-loop
 clamp-requires c κs =
-    let partly = partly-sound (c .before .before .before .before .before .before .before .before .before .before .before .before .before .before .before .pre) (c .before .before .before .before .before .before .loop .inv .1) in
-    ranges-at (partly .ranges) (c .before .before .before .before .before .before .loop .i) (omega (arith, partly .paired)) .0
+    let s = c .before .before .before .before .before .before .before .before .before .before .before .before in
+    ranges-at (s .pre .0 .sound .ranges) (c .before .before .before .before .loop .i) (omega arith) .0
 
--- the start, the loop's turn, the copy taken and the share, seen from the member's share on
+-- the start, the loop's turn and the member's share, seen from the share on
 module _ (c : tie.After-clamp Inv-loop μ-loop) where
   abbrev turn : tie.At-loop Inv-loop μ-loop
-  turn = c .before .before .before .before .before .before .before
+  turn = c .before .before .before .before .before
 
   abbrev opened : tie.After-remainder-at Inv-loop μ-loop
   opened = turn .before
 
   abbrev start : tie.Start Inv-loop μ-loop
-  start = opened .before .before .before .before .before .before .before .before
+  start = opened .before .before .before .before .before .before .before
 
   abbrev lows : List ℕ
   lows = start .args .lows .now
@@ -81,7 +77,7 @@ module _ (c : tie.After-clamp Inv-loop μ-loop) where
   highs = start .args .highs .now
 
   abbrev v : ℕ
-  v = opened .before .before .before .level-at .result
+  v = opened .before .level-at .result
 
   abbrev left : ℕ
   left = opened .remainder-at .result
@@ -90,41 +86,48 @@ module _ (c : tie.After-clamp Inv-loop μ-loop) where
   i = turn .loop .i
 
   abbrev more : ℕ
-  more = c .before .before .before .extra .result
+  more = c .before .extra .result
 
   abbrev share : ℕ
   share = c .clamp .result + more
-
-  -- the member's range is the one at the start
-  range : (getD (turn .loop .lows) i 0 ≡ getD lows i 0) × (getD (turn .loop .highs) i 0 ≡ getD highs i 0)
-  range = turn .loop .inv .1 .others i (omega arith)
-
-  is-clamp : c .clamp .result ≡ clamp (getD lows i 0) (getD highs i 0) v
-  is-clamp = rw (range .0, range .1) at (c .clamp .ensures)
-
-  is-growth : more ≡ min (turn .loop .left) (growth (getD lows i 0) (getD highs i 0) v)
-  is-growth = rw (range .0, range .1) at (c .before .before .before .extra .ensures)
 
   -- the share is the levelled one
   is-levelled : share ≡ getD (levelled lows highs (start .args .total)) i 0
   is-levelled =
       let levelled-here : topped lows highs v left ≡ levelled lows highs (start .args .total) =
-      levelled-is lows highs (start .args .total) v left (opened .before .before .before .level-at .ensures) (opened .remainder-at .ensures) in
-      rw (← levelled-here) (sym (ahead-share lows highs i (omega arith) (omega arith) v left (turn .loop .left) (c .clamp .result) more is-clamp is-growth (turn .loop .inv .2)))
+      levelled-is lows highs (start .args .total) v left (opened .before .level-at .ensures) (opened .remainder-at .ensures) in
+      rw (← levelled-here) (sym (ahead-share lows highs i (omega arith) (omega arith) v left (turn .loop .left) (c .clamp .result) more (c .clamp .ensures) (c .before .extra .ensures) (turn .loop .inv .3)))
+
+  -- which some plan gives the member
+  planned : Planned lows highs (start .args .total) (start .args .limits) i share
+  planned = rw is-levelled (levelled-planned (start .pre .0) i (omega arith))
 
   next : Ahead lows highs v left (turn .loop .left - more) (i + 1)
-  next = ahead-step lows highs i (omega arith) (omega arith) v left (turn .loop .left) (c .clamp .result) more is-clamp is-growth (turn .loop .inv .2)
+  next = ahead-step lows highs i (omega arith) (omega arith) v left (turn .loop .left) (c .clamp .result) more (c .clamp .ensures) (c .before .extra .ensures) (turn .loop .inv .3)
 
 add-share : tie.Need-add-share Inv-loop μ-loop
-add-share c = omega (arith, share-at-small (start c .pre .sound) (i c) (v c) (turn c .loop .left) (c .clamp .result) (more c) (omega arith) (is-clamp c) (is-growth c))
+add-share c = omega (arith, share-at-small (start c .pre .0 .sound) (i c) (v c) (turn c .loop .left) (c .clamp .result) (more c) (omega arith) (c .clamp .ensures) (c .before .extra .ensures))
 
 sub-left : tie.Need-sub-left Inv-loop μ-loop
 sub-left c = search needs
 
-narrow-member-requires : tie.Need-narrow-member-requires Inv-loop μ-loop
-narrow-member-requires c κs =
-    let m = c .before .before in
-    rw (is-levelled m) (partly-planned (start m .pre) (turn m .loop .inv .1) (omega arith))
+farthest-taken-requires : tie.Need-farthest-taken-requires Inv-loop μ-loop
+farthest-taken-requires c κs = to-low (planned c) (start c .pre .1 .0)
+
+mul-starts : tie.Need-mul-starts Inv-loop μ-loop
+mul-starts c = search needs
+
+slice-write-starts : tie.Need-slice-write-starts Inv-loop μ-loop
+slice-write-starts c = search needs
+
+farthest-taken-requires-2 : tie.Need-farthest-taken-requires-2 Inv-loop μ-loop
+farthest-taken-requires-2 c κs = to-high (planned (c .before)) (start (c .before) .pre .1 .0)
+
+mul-stops : tie.Need-mul-stops Inv-loop μ-loop
+mul-stops c = search needs
+
+slice-write-stops : tie.Need-slice-write-stops Inv-loop μ-loop
+slice-write-stops c = search needs
 
 add-i : tie.Need-add-i Inv-loop μ-loop
 add-i c = search needs
@@ -134,19 +137,25 @@ loop-less c = search needs
 
 loop-again : tie.Need-loop-again Inv-loop μ-loop
 loop-again c =
-    let n = c .before .before .before .before in
-    let m = n .before .before .before in
-    (search needs, partly-step (start m .pre) (turn m .loop .inv .1) (omega arith) (n .narrow-member .ensures .0) (n .narrow-member .ensures .1), next m)
+    let m = c .before .before in (
+      search needs,
+      filled-next (turn m .loop .inv .1) (omega arith) (low-reached (planned m) (c .before .farthest-taken .ensures)),
+      filled-next (turn m .loop .inv .2) (omega arith) (high-reached (planned m) (c .farthest-taken2 .ensures)),
+      next m,
+    )
 
 same-length : tie.Need-same-length Inv-loop μ-loop
-same-length c = c .before .loop .inv .1 .sameLows
+same-length c = c .before .loop .inv .1 .size ∙ sym (c .before .before .before .before .before .before .before .before .before .pre .1 .1 .0)
 
 same-length-2 : tie.Need-same-length-2 Inv-loop μ-loop
-same-length-2 c = c .before .loop .inv .1 .sameHighs
+same-length-2 c = c .before .loop .inv .2 .size ∙ sym (c .before .before .before .before .before .before .before .before .before .pre .1 .1 .1)
 
 returns : tie.Need-returns Inv-loop μ-loop
 returns c =
-    partly-all (c .before .before .before .before .before .before .before .before .before .before .pre) (c .before .loop .inv .1) (omega arith)
+    let inv = c .before .loop .inv in (
+      filled-all (inv .1) (omega arith) (narrowedLows-length _ _ _ _) (narrowedLows-at _ _ _ _),
+      filled-all (inv .2) (omega arith) (narrowedHighs-length _ _ _ _) (narrowedHighs-at _ _ _ _),
+    )
 
 pub narrow-members-spec : {M : Type 1} → statement M
 narrow-members-spec =
@@ -157,19 +166,20 @@ narrow-members-spec =
     level-at-requires
     remainder-at-requires
     loop-holds
-    mul-extra
-    slice-read-extra
-    mul-extra-2
-    slice-read-extra-2
+    mul-low
+    shared-slice-read-low
+    mul-high
+    shared-slice-read-high
     extra-requires
-    mul-clamp
-    slice-read-clamp
-    mul-clamp-2
-    slice-read-clamp-2
     clamp-requires
     add-share
     sub-left
-    narrow-member-requires
+    farthest-taken-requires
+    mul-starts
+    slice-write-starts
+    farthest-taken-requires-2
+    mul-stops
+    slice-write-stops
     add-i
     loop-less
     loop-again

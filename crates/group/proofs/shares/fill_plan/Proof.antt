@@ -46,7 +46,9 @@ shared-slice-read-clamp-2 : tie.Need-shared-slice-read-clamp-2 Inv-loop μ-loop
 shared-slice-read-clamp-2 c = search needs
 
 clamp-requires : tie.Need-clamp-requires Inv-loop μ-loop
-clamp-requires c κs = ranges-at (c .before .before .before .before .before .before .before .before .before .before .pre .0 .ranges) (c .before .before .before .before .before .before .loop .i) (omega arith) .0
+clamp-requires c κs =
+    let turn = c .before .before .before .before .before .before in
+    ranges-at (turn .before .before .before .before .pre .0 .ranges) (turn .loop .i) (omega arith) .0
 
 -- the start and the loop's turn, seen from the member's share on
 module _ (c : tie.After-clamp Inv-loop μ-loop) where
@@ -81,8 +83,12 @@ loop-less c = search needs
 
 loop-again : tie.Need-loop-again Inv-loop μ-loop
 loop-again c =
-    let s = start c in
-    (search needs, written-step (s .args .lows .now) (s .args .highs .now) (turn c .loop .i) (omega arith) (omega arith) (s .args .v) (s .args .left) (turn c .loop .rest) (c .clamp .result) (c .before .before .before .extra .result) (s .args .plan .now) (turn c .loop .plan) (omega arith) (c .clamp .ensures) (c .before .before .before .extra .ensures) (turn c .loop .inv .1))
+    let s = start c in (
+      search needs,
+      written-step (s .args .lows .now) (s .args .highs .now) (turn c .loop .i) (omega arith) (omega arith) (s .args .v) (s .args .left)
+          (turn c .loop .rest) (c .clamp .result) (c .before .before .before .extra .result) (s .args .plan .now) (turn c .loop .plan)
+          (omega arith) (c .clamp .ensures) (c .before .before .before .extra .ensures) (turn c .loop .inv .1),
+    )
 
 same-length : tie.Need-same-length Inv-loop μ-loop
 same-length c = c .before .loop .inv .1 .size
@@ -90,7 +96,8 @@ same-length c = c .before .loop .inv .1 .size
 returns : tie.Need-returns Inv-loop μ-loop
 returns c =
     let s = c .before .before .before .before .before in
-    written-all (s .args .lows .now) (s .args .highs .now) (s .args .v) (s .args .left) (c .before .loop .rest) (c .before .loop .i) (s .args .plan .now) (c .before .loop .plan) (omega arith) (c .before .loop .inv .1)
+    written-all (s .args .lows .now) (s .args .highs .now) (s .args .v) (s .args .left) (c .before .loop .rest) (c .before .loop .i)
+    (s .args .plan .now) (c .before .loop .plan) (omega arith) (c .before .loop .inv .1)
 
 pub fill-plan-spec : {M : Type 1} → statement M
 fill-plan-spec =

@@ -2,22 +2,16 @@
 use Prim.Native.Nat.{ℕ}
 use mathlib.Core.List.{List}
 use lib.ListN.{length, drop}
-use mathlib.Core.Path.{_≡_, sym, _∙_, ap}
+use mathlib.Core.Path.{sym}
 use Rattle.text.specs.Parsed.{andThen, mapped, mapped-parsed}
 use Rattle.text.specs.Spots.{stepped, told}
 use Rattle.job.specs.Form.{membersAs, groupAs}
 use Rattle.text.specs.Numbers.{held}
 use Rattle.job.specs.Seen.{headSeen}
 use Rattle.job.specs.Tally.{tallied, grouped-none, grouped-some}
-use native.Mathlib.Omega.{arith}
 use borrow.Author.Needs.{needs}
 use Rattle.job.proofs.lines.group_line.Statement.{statement}
 use Rattle.job.proofs.lines.group_line.Tie as tie
-use Rattle.job.proofs.lines.group_line.Reads as reads
-use Rattle.job.proofs.lines.group_line.Lts as lts
-use Rattle.job.proofs.lines.head_line.Reads as head-line-reads
-use Rattle.job.proofs.lines.read_members.Reads as read-members-reads
-use Rattle.text.proofs.Spot.word.Reads as word-reads
 
 head-line-requires : tie.Need-head-line-requires
 head-line-requires c κs = search needs

@@ -1,5 +1,4 @@
 -- Item by item, each read where the one before ended. Assumes nothing.
-use mathlib.Core.Path.{_≡_}
 use borrow.Author.Needs.{needs}
 use Rattle.text.specs.Parsed.{andThen, mapped}
 use Rattle.text.specs.Spots.{stepped, counted, told}
@@ -7,11 +6,6 @@ use Rattle.job.specs.Form.{numberAs, headAs}
 use Rattle.job.specs.Seen.{limitSeen}
 use Rattle.job.proofs.lines.head_line.Statement.{statement}
 use Rattle.job.proofs.lines.head_line.Tie as tie
-use Rattle.job.proofs.lines.head_line.Reads as reads
-use Rattle.job.proofs.lines.head_line.Lts as lts
-use Rattle.job.proofs.lines.limit_after.Reads as limit-after-reads
-use Rattle.text.proofs.Spot.number_after.Reads as number-after-reads
-use Rattle.text.proofs.Spot.word.Reads as word-reads
 
 slice-aggregate-number-after : tie.Need-slice-aggregate-number-after
 slice-aggregate-number-after c = search needs

@@ -1,5 +1,4 @@
 -- After the word stands any, or else a number. Assumes nothing.
-use mathlib.Core.Path.{_≡_}
 use borrow.Author.Needs.{needs}
 use Rattle.text.specs.Parsed.{andThen, mapped, orElse, word}
 use Rattle.text.specs.Numbers.{numberAfter}
@@ -7,10 +6,6 @@ use Rattle.text.specs.Spots.{stepped, counted, told}
 use Rattle.job.specs.Form.{numberAs, limitAs}
 use Rattle.job.proofs.lines.limit_after.Statement.{statement}
 use Rattle.job.proofs.lines.limit_after.Tie as tie
-use Rattle.job.proofs.lines.limit_after.Reads as reads
-use Rattle.job.proofs.lines.limit_after.Lts as lts
-use Rattle.text.proofs.Spot.number.Reads as number-reads
-use Rattle.text.proofs.Spot.word.Reads as word-reads
 
 word-requires : tie.Need-word-requires
 word-requires c κs = search needs

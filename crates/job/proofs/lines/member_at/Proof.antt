@@ -1,12 +1,8 @@
 -- A member is a number after a space. Assumes nothing.
 use Rattle.job.specs.Form.{numberAs}
-use native.Mathlib.Omega.{arith}
 use borrow.Author.Needs.{needs}
 use Rattle.job.proofs.lines.member_at.Statement.{statement}
 use Rattle.job.proofs.lines.member_at.Tie as tie
-use Rattle.job.proofs.lines.member_at.Reads as reads
-use Rattle.job.proofs.lines.member_at.Lts as lts
-use Rattle.text.proofs.Spot.number_after.Reads as number-after-reads
 
 slice-aggregate-number-after : tie.Need-slice-aggregate-number-after
 slice-aggregate-number-after c = search needs

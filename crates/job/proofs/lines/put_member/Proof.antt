@@ -1,12 +1,10 @@
 -- Past the end nothing is stored, and nothing is asked. Assumes nothing.
-use mathlib.Core.Path.{_≡_, sym}
+use mathlib.Core.Path.{sym}
 use lib.Seq.{set-out}
 use native.Mathlib.Omega.{arith}
 use borrow.Author.Needs.{needs}
 use Rattle.job.proofs.lines.put_member.Statement.{statement}
 use Rattle.job.proofs.lines.put_member.Tie as tie
-use Rattle.job.proofs.lines.put_member.Reads as reads
-use Rattle.job.proofs.lines.put_member.Lts as lts
 
 returns : tie.Need-returns
 returns c = sym (set-out _ _ _ (c .if1 .taken))

@@ -1,23 +1,18 @@
 -- The members passed are in the tally; what is left is collected on. A turn spends bytes of the text. Assumes nothing.
-use Prim.Native.Nat.{ℕ, _+_, _-_, _≤_, _<_}
+use Prim.Native.Nat.{ℕ, _+_, _-_, _≤_}
 use mathlib.Core.Bool.{Bool, true}
 use mathlib.Core.List.{List}
-use mathlib.Core.Path.{_≡_, refl, sym, ap, _∙_}
-use lib.ListN.{length, drop, length-drop, length-set}
-use Rattle.text.specs.Parsed.{Parsed, parsed, failed}
+use mathlib.Core.Path.{_≡_, refl, sym, _∙_}
+use lib.ListN.{length, drop, length-drop}
+use Rattle.text.specs.Parsed.{failed}
 use Rattle.text.specs.Numbers.{held}
 use Rattle.text.specs.Spots.{counted, told}
 use Rattle.job.specs.Form.{space, numberAs}
-use Rattle.job.specs.Tally.{Tally, noted, collect, collect-tallied, collect-none, collect-next}
+use Rattle.job.specs.Tally.{Tally, collect, collect-tallied, collect-none, collect-next}
 use native.Mathlib.Omega.{arith}
 use borrow.Author.Needs.{needs}
 use Rattle.job.proofs.lines.read_members.Statement.{statement}
 use Rattle.job.proofs.lines.read_members.Tie as tie
-use Rattle.job.proofs.lines.read_members.Reads as reads
-use Rattle.job.proofs.lines.read_members.Lts as lts
-use Rattle.job.proofs.lines.member_at.Reads as member-at-reads
-use Rattle.job.proofs.lines.put_member.Reads as put-member-reads
-use Rattle.job.proofs.lines.still_within.Reads as still-within-reads
 
 abbrev tally : ℕ → Bool → List ℕ → Tally
 tally count within flat = record { count = count; within = within; flat = flat }

@@ -1,13 +1,8 @@
 -- Each test in turn. Assumes nothing.
-use mathlib.Core.Bool.{true}
-use mathlib.Core.Path.{_≡_}
 use borrow.Author.Tests.{le-leb, not-true, not-false}
 use native.Mathlib.Omega.{arith}
-use borrow.Author.Needs.{needs}
 use Rattle.job.proofs.lines.still_within.Statement.{statement}
 use Rattle.job.proofs.lines.still_within.Tie as tie
-use Rattle.job.proofs.lines.still_within.Reads as reads
-use Rattle.job.proofs.lines.still_within.Lts as lts
 
 returns : tie.Need-returns
 returns c = rw (not-true (c .before .args .within) (c .if1 .taken))

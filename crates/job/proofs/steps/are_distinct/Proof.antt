@@ -1,13 +1,9 @@
 -- At first no number is marked. Assumes nothing.
 use mathlib.Core.Path.{_∙_}
 use Rattle.job.specs.Distinct.{fresh-is-distinct}
-use native.Mathlib.Omega.{arith}
 use borrow.Author.Needs.{needs}
 use Rattle.job.proofs.steps.are_distinct.Statement.{statement}
 use Rattle.job.proofs.steps.are_distinct.Tie as tie
-use Rattle.job.proofs.steps.are_distinct.Reads as reads
-use Rattle.job.proofs.steps.are_distinct.Lts as lts
-use Rattle.job.proofs.steps.fresh_by.Reads as fresh-by-reads
 
 slice-aggregate-fresh-by : tie.Need-slice-aggregate-fresh-by
 slice-aggregate-fresh-by c = search needs

@@ -1,16 +1,14 @@
 -- The numbers passed are marked; the rest is asked of those marks. Assumes nothing.
-use Prim.Native.Nat.{ℕ, _+_, _-_, _*_, _≤_, _<_}
+use Prim.Native.Nat.{ℕ, _-_, _<_}
 use mathlib.Core.List.{List, []}
-use mathlib.Core.Path.{_≡_, refl, sym, ap, _∙_}
+use mathlib.Core.Path.{_≡_, refl, sym, _∙_}
 use borrow.Author.Tests.{eq-eqb, ne-eqb}
-use lib.ListN.{length, getD, set, drop, length-set, drop-of-length-le}
+use lib.ListN.{length, getD, drop, length-set, drop-of-length-le}
 use Rattle.job.specs.Distinct.{freshBy, below-at, fresh-next, fresh-end}
 use native.Mathlib.Omega.{arith}
 use borrow.Author.Needs.{needs}
 use Rattle.job.proofs.steps.fresh_by.Statement.{statement}
 use Rattle.job.proofs.steps.fresh_by.Tie as tie
-use Rattle.job.proofs.steps.fresh_by.Reads as reads
-use Rattle.job.proofs.steps.fresh_by.Lts as lts
 
 abbrev Inv-loop : tie.InvT-loop
 Inv-loop members marks₀ i₀ marks i = (length marks ≡ length marks₀) × (freshBy marks (drop i members) ≡ freshBy marks₀ members)

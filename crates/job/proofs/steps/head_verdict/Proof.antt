@@ -1,15 +1,12 @@
 -- Each test in turn. Assumes nothing.
-use borrow.Author.Tests.{le-leb, lt-leb, lt-ltb, le-ltb, eq-eqb, ne-eqb, not-true, not-false}
+use borrow.Author.Tests.{le-leb, lt-leb, lt-ltb, le-ltb, not-true, not-false}
 use Prim.Native.Nat.{_+_}
 use mathlib.Core.Path.{sym, _∙_}
-use Rattle.job.specs.Job.{headVerdict, limitUpTo}
+use Rattle.job.specs.Job.{headVerdict}
 use native.Mathlib.Omega.{arith}
 use borrow.Author.Needs.{needs}
 use Rattle.job.proofs.steps.head_verdict.Statement.{statement}
 use Rattle.job.proofs.steps.head_verdict.Tie as tie
-use Rattle.job.proofs.steps.head_verdict.Reads as reads
-use Rattle.job.proofs.steps.head_verdict.Lts as lts
-use Rattle.job.proofs.steps.limit_up_to.Reads as limit-up-to-reads
 
 returns : tie.Need-returns
 unfolding headVerdict

@@ -7,8 +7,6 @@ use native.Mathlib.Omega.{arith}
 use borrow.Author.Needs.{needs}
 use Rattle.job.proofs.steps.limit_code.Statement.{statement}
 use Rattle.job.proofs.steps.limit_code.Tie as tie
-use Rattle.job.proofs.steps.limit_code.Reads as reads
-use Rattle.job.proofs.steps.limit_code.Lts as lts
 
 enum-told : tie.Need-enum-told
 enum-told c = search needs

@@ -1,11 +1,8 @@
 -- In the arm that binds the number, the limit is AtMost at it. Assumes nothing.
 
-use native.Mathlib.Omega.{arith}
 use borrow.Author.Needs.{needs}
 use Rattle.job.proofs.steps.limit_up_to.Statement.{statement}
 use Rattle.job.proofs.steps.limit_up_to.Tie as tie
-use Rattle.job.proofs.steps.limit_up_to.Reads as reads
-use Rattle.job.proofs.steps.limit_up_to.Lts as lts
 
 enum-told : tie.Need-enum-told
 enum-told c = search needs

@@ -6,9 +6,6 @@ use native.Mathlib.Omega.{arith}
 use borrow.Author.Needs.{needs}
 use Rattle.job.proofs.steps.put_head.Statement.{statement}
 use Rattle.job.proofs.steps.put_head.Tie as tie
-use Rattle.job.proofs.steps.put_head.Reads as reads
-use Rattle.job.proofs.steps.put_head.Lts as lts
-use Rattle.job.proofs.steps.limit_code.Reads as limit-code-reads
 
 limit-code-requires : tie.Need-limit-code-requires
 limit-code-requires c κs = search needs

@@ -1,17 +1,10 @@
 -- A line is tried as a unit line, then as a group line. Assumes nothing.
-use mathlib.Core.Path.{_≡_, sym}
 use Rattle.text.specs.Spots.{told}
 use Rattle.job.specs.Seen.{unitSeen}
 use Rattle.job.specs.Taking.{line-is-group, line-is-unit}
-use native.Mathlib.Omega.{arith}
 use borrow.Author.Needs.{needs}
 use Rattle.job.proofs.steps.take_line.Statement.{statement}
 use Rattle.job.proofs.steps.take_line.Tie as tie
-use Rattle.job.proofs.steps.take_line.Reads as reads
-use Rattle.job.proofs.steps.take_line.Lts as lts
-use Rattle.job.proofs.lines.unit_line.Reads as unit-line-reads
-use Rattle.job.proofs.steps.take_group.Reads as take-group-reads
-use Rattle.job.proofs.steps.take_unit.Reads as take-unit-reads
 
 unit-line-requires : tie.Need-unit-line-requires
 unit-line-requires c κs = search needs

@@ -1,8 +1,5 @@
 -- The verdict is the definition's; the stores are the job's new unit. Assumes nothing.
-use Prim.Native.Nat.{ℕ, _+_, _≤_, _<_}
-use mathlib.Core.Path.{_≡_, sym, _∙_}
-use lib.ListN.{length}
-use Rattle.job.specs.Steps.{lists}
+use mathlib.Core.Path.{sym, _∙_}
 use Rattle.job.specs.Job.{add}
 use Rattle.job.specs.Form.{UnitLine, unit}
 use Rattle.job.specs.Verdicts.{unit-good}
@@ -11,10 +8,6 @@ use native.Mathlib.Omega.{arith}
 use borrow.Author.Needs.{needs}
 use Rattle.job.proofs.steps.take_unit.Statement.{statement}
 use Rattle.job.proofs.steps.take_unit.Tie as tie
-use Rattle.job.proofs.steps.take_unit.Reads as reads
-use Rattle.job.proofs.steps.take_unit.Lts as lts
-use Rattle.job.proofs.steps.refuse.Reads as refuse-reads
-use Rattle.job.proofs.steps.unit_verdict.Reads as unit-verdict-reads
 
 unit-verdict-requires : tie.Need-unit-verdict-requires
 unit-verdict-requires c κs = search needs

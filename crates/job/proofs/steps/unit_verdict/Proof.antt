@@ -1,12 +1,8 @@
 -- Each test in turn. Assumes nothing.
-use borrow.Author.Tests.{le-leb, lt-leb, lt-ltb, le-ltb, eq-eqb, ne-eqb, not-true, not-false}
+use borrow.Author.Tests.{le-leb, lt-leb, lt-ltb, le-ltb, eq-eqb, ne-eqb}
 use Rattle.job.specs.Job.{unitVerdict}
-use native.Mathlib.Omega.{arith}
-use borrow.Author.Needs.{needs}
 use Rattle.job.proofs.steps.unit_verdict.Statement.{statement}
 use Rattle.job.proofs.steps.unit_verdict.Tie as tie
-use Rattle.job.proofs.steps.unit_verdict.Reads as reads
-use Rattle.job.proofs.steps.unit_verdict.Lts as lts
 
 returns : tie.Need-returns
 unfolding unitVerdict

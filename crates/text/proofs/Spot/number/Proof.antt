@@ -1,22 +1,13 @@
 -- The first digit decides: none, a 0 that stands alone, or one that others go on. Assumes nothing.
-use Prim.Native.Nat.{ℕ, _+_, _<_}
-use mathlib.Core.List.{List}
-use mathlib.Core.Path.{_≡_, refl, sym, _∙_, ap}
+use mathlib.Core.Path.{sym, _∙_}
 use native.Mathlib.Omega.{arith}
 use borrow.Author.Needs.{needs}
 use borrow.Author.Tests.{eq-eqb, ne-eqb}
-use lib.ListN.{length, drop}
 use lib.Seq.{drop-drop}
 use Rattle.text.specs.Parsed.{mapped}
-use Rattle.text.specs.Numbers.{number, held}
-use Rattle.text.specs.Spots.{firstDigit, digit-less, digit-inside, number-first, number-none}
-use Rattle.text.specs.declared.Found.the-variants.{Is, Nothing}
+use Rattle.text.specs.Spots.{digit-less, digit-inside, number-first, number-none}
 use Rattle.text.proofs.Spot.number.Statement.{statement}
 use Rattle.text.proofs.Spot.number.Tie as tie
-use Rattle.text.proofs.Spot.number.Reads as reads
-use Rattle.text.proofs.Spot.number.Lts as lts
-use Rattle.text.proofs.digit_at.Reads as digit-at-reads
-use Rattle.text.proofs.digits_from.Reads as digits-from-reads
 
 digit-at-requires : tie.Need-digit-at-requires
 digit-at-requires c κs = search needs

@@ -1,15 +1,10 @@
 -- A number is read where the word ended. Assumes nothing.
-use mathlib.Core.Path.{_≡_}
 use borrow.Author.Needs.{needs}
 use Rattle.text.specs.Parsed.{andThen, mapped}
 use Rattle.text.specs.Numbers.{numberAfter}
 use Rattle.text.specs.Spots.{stepped, told}
 use Rattle.text.proofs.Spot.number_after.Statement.{statement}
 use Rattle.text.proofs.Spot.number_after.Tie as tie
-use Rattle.text.proofs.Spot.number_after.Reads as reads
-use Rattle.text.proofs.Spot.number_after.Lts as lts
-use Rattle.text.proofs.Spot.number.Reads as number-reads
-use Rattle.text.proofs.Spot.word.Reads as word-reads
 
 word-requires : tie.Need-word-requires
 word-requires c κs = search needs

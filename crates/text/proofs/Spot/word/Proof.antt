@@ -1,18 +1,16 @@
 -- The bytes passed are those of the word. Assumes nothing.
 use Prim.Native.Nat.{ℕ, _+_, _-_, _≤_, _<_}
-use mathlib.Core.List.{List, [], _∷_}
-use mathlib.Core.Path.{_≡_, refl, sym, _∙_, ap}
+use mathlib.Core.List.{List, []}
+use mathlib.Core.Path.{_≡_, refl, sym, _∙_}
 use native.Mathlib.Numerals.{add-one}
 use borrow.Author.Tests.{eq-eqb, ne-eqb}
 use lib.ListN.{length, getD, drop, drop-of-length-le}
-use lib.Seq.{drop-cons, drop-drop}
-use Rattle.text.specs.Parsed.{parsed, failed, word}
+use lib.Seq.{drop-cons}
+use Rattle.text.specs.Parsed.{failed, word}
 use borrow.Author.Needs.{needs}
 use native.Mathlib.Omega.{arith}
 use Rattle.text.proofs.Spot.word.Statement.{statement}
 use Rattle.text.proofs.Spot.word.Tie as tie
-use Rattle.text.proofs.Spot.word.Reads as reads
-use Rattle.text.proofs.Spot.word.Lts as lts
 
 module _ (bytes text : List ℕ) (i at : ℕ) (more : i < length bytes) where
   at-end : length text ≤ at → word (drop i bytes) (drop at text) ≡ failed

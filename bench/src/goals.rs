@@ -1,0 +1,90 @@
+//! The goals of the planner's speed, each with its figure in this run; a goal is left out where nothing was measured.
+
+use crate::jobs::Tightness;
+use crate::planners::{BISECTION, GECODE, PLANNER, SAME_WAY};
+use crate::table::{digits, Table};
+use crate::timing::Times;
+use crate::work::narrow::Timed;
+
+/// The times that goals are about.
+pub struct Results {
+    pub level: Vec<Times>,
+    pub narrow: Vec<Timed>,
+    pub read: Vec<Times>,
+    pub settle: Vec<(String, Times)>,
+}
+
+/// A goal: what is measured, the figure, and whether it should be at most or at least a number.
+struct Goal {
+    what: &'static str,
+    figure: Option<f64>,
+    most: bool,
+    bound: f64,
+}
+
+/// The goals as a table.
+pub fn run(results: &Results) -> Table {
+    let mut table = Table::new("goals", &["goal", "figure", "bound", "met"]);
+    for Goal { what, figure, most, bound } in goals(results) {
+        let Some(figure) = figure else {
+            continue;
+        };
+        let met = if most { figure <= bound } else { figure >= bound };
+        table.add(vec![
+            what.to_string(),
+            digits(Some(figure)),
+            format!("at {} {bound}", if most { "most" } else { "least" }),
+            if met { "yes" } else { "no" }.to_string(),
+        ]);
+    }
+    table
+}
+
+/// All goals.
+fn goals(results: &Results) -> Vec<Goal> {
+    let Results { level, narrow, read, settle } = results;
+    let narrowing = || narrow.iter().map(|timed| &timed.times);
+    let settling = || settle.iter().map(|(_, times)| times);
+    let tight = |n: usize| narrow.iter().filter(move |timed| timed.n == n && timed.tightness == Tightness::Tight);
+    let faster = |n: usize| least(tight(n).map(|timed| timed.times.ratio(BISECTION, PLANNER)));
+    let grows = |first: bool| {
+        let time = |n: usize| tight(n).find(|timed| timed.first == first)?.times.of(PLANNER);
+        Some(time(256)? / time(64)?)
+    };
+    let milliseconds =
+        |job: &str| settle.iter().find(|(name, _)| name == job)?.1.of(PLANNER).map(|time| time / 1_000.0);
+    let goal = |what, figure, most, bound| Goal { what, figure, most, bound };
+    vec![
+        goal("levelling, planner / plain Rust, greatest of all sizes", worst(level.iter(), BISECTION), true, 1.2),
+        goal(
+            "narrowing, planner / plain Rust of the same way, greatest of all rows",
+            worst(narrowing(), SAME_WAY),
+            true,
+            1.2,
+        ),
+        goal("reading, planner / plain Rust, greatest of all texts", worst(read.iter(), BISECTION), true, 1.2),
+        goal(
+            "settling, planner / plain Rust of the same way, greatest of all jobs",
+            worst(settling(), SAME_WAY),
+            true,
+            1.2,
+        ),
+        goal("narrowing 64 members, times as fast as by bisection", faster(64), false, 5.0),
+        goal("narrowing 256 members, times as fast as by bisection", faster(256), false, 20.0),
+        goal("narrowing, planner / Gecode, greatest of all rows", worst(narrowing(), GECODE), true, 1.0),
+        goal("narrowing, first call, 256 members to 64", grows(true), true, 8.0),
+        goal("narrowing, quiet call, 256 members to 64", grows(false), true, 8.0),
+        goal("settling 16 × 256, milliseconds", milliseconds("16 × 256"), true, 20.0),
+        goal("settling 64 × 8, milliseconds", milliseconds("64 × 8"), true, 2.0),
+    ]
+}
+
+/// The greatest ratio of the planner's time to another's.
+fn worst<'a>(times: impl Iterator<Item = &'a Times>, other: &str) -> Option<f64> {
+    times.filter_map(|times| times.ratio(PLANNER, other)).max_by(f64::total_cmp)
+}
+
+/// The least of some figures.
+fn least(figures: impl Iterator<Item = Option<f64>>) -> Option<f64> {
+    figures.flatten().min_by(f64::total_cmp)
+}

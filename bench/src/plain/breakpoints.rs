@@ -1,0 +1,134 @@
+//! A group's breakpoints: its bounds in order, each with the sums of the shares levelled there. Between two of them every
+//! member either keeps its share or moves with the level, so that the sums at any level follow from one row.
+
+use danivomel_tests::answers::{Deviation, Limits, Spread};
+use danivomel_tests::independent::level::{clamp, deviation_part};
+
+/// Sums over the shares at one level.
+#[derive(Clone, Copy)]
+pub struct Sums {
+    pub total: u64,
+    deviation: u64,
+    squares: u64,
+}
+
+/// A bound, the sums where every member takes it moved into its range, and how many members grow there.
+#[derive(Clone, Copy)]
+pub struct Row {
+    level: u64,
+    growing: u64,
+    pub sums: Sums,
+}
+
+/// One member: its range at the start, and its levelled share.
+#[derive(Clone, Copy)]
+pub struct Member {
+    pub low: u64,
+    pub high: u64,
+    pub share: u64,
+}
+
+/// A group's rows, rising, the row of its levelled shares, and what its figures need.
+pub struct Table {
+    pub rows: Vec<Row>,
+    pub near: usize,
+    pub total: u64,
+    n: u64,
+    limits: Limits,
+}
+
+impl Table {
+    /// The table of a group that has shares: a walk upward over its bounds.
+    pub fn of(lows: &[u64], highs: &[u64], total: u64, limits: Limits) -> Table {
+        let (mut starts, mut ends) = (lows.to_vec(), highs.to_vec());
+        starts.sort_unstable();
+        ends.sort_unstable();
+        let rows = Vec::with_capacity(2 * lows.len());
+        let mut table = Table { rows, near: 0, total, n: lows.len() as u64, limits };
+        let mut sums = Sums { total: 0, deviation: 0, squares: 0 };
+        for &low in lows {
+            sums = table.with(sums, 1, low);
+        }
+        let (mut started, mut ended, mut level) = (0, 0, starts[0]);
+        loop {
+            started += starts[started..].iter().take_while(|&&start| start <= level).count();
+            ended += ends[ended..].iter().take_while(|&&end| end <= level).count();
+            let growing = (started - ended) as u64;
+            table.rows.push(Row { level, growing, sums });
+            if ended == ends.len() {
+                break;
+            }
+            let next = starts[started..].first().map_or(ends[ended], |start| ends[ended].min(*start));
+            sums = table.with(table.without(sums, growing, level), growing, next);
+            level = next;
+        }
+        table.near = table.rows.partition_point(|row| row.sums.total <= total) - 1;
+        table
+    }
+
+    /// Sums with so many more shares of one size.
+    fn with(&self, sums: Sums, count: u64, share: u64) -> Sums {
+        Sums {
+            total: sums.total + count * share,
+            deviation: sums.deviation + count * deviation_part(self.n, share, self.total),
+            squares: sums.squares + count * share * share,
+        }
+    }
+
+    /// Sums with so many fewer shares of one size.
+    fn without(&self, sums: Sums, count: u64, share: u64) -> Sums {
+        Sums {
+            total: sums.total - count * share,
+            deviation: sums.deviation - count * deviation_part(self.n, share, self.total),
+            squares: sums.squares - count * share * share,
+        }
+    }
+
+    /// Whether the figures of all shares are within the limits.
+    fn met(&self, sums: Sums) -> bool {
+        let spread = self.n * sums.squares - self.total * self.total;
+        self.limits.met(Deviation(sums.deviation), Spread(spread))
+    }
+
+    /// Gives what a total has more than a row's to its growing members, who are all at its level: their new level, the
+    /// copies left over, and the sums then.
+    fn spend(&self, row: Row, total: u64) -> (u64, u64, Sums) {
+        if row.growing == 0 {
+            return (row.level, 0, row.sums);
+        }
+        let more = total - row.sums.total;
+        let (level, left) = (row.level + more / row.growing, more % row.growing);
+        let moved = self.with(self.without(row.sums, row.growing, row.level), row.growing - left, level);
+        (level, left, self.with(moved, left, level + 1))
+    }
+
+    /// The levelled shares' level and remainder, where they are within the limits.
+    pub fn levelled(&self) -> Option<(u64, u64)> {
+        let (level, left, sums) = self.spend(self.rows[self.near], self.total);
+        self.met(sums).then_some((level, left))
+    }
+
+    /// The total of a row without one member.
+    pub fn rest(&self, row: &Row, member: Member) -> u64 {
+        row.sums.total - clamp(member.low, member.high, row.level)
+    }
+
+    /// A row without one member.
+    pub fn others(&self, row: usize, member: Member) -> Row {
+        let row = self.rows[row];
+        let own = clamp(member.low, member.high, row.level);
+        let growing = row.growing - u64::from(member.low <= row.level && row.level < member.high);
+        Row { level: row.level, growing, sums: self.without(row.sums, 1, own) }
+    }
+
+    /// Whether the limits are met where a member takes a value and the others are between their row and the next one.
+    pub fn met_with(&self, others: Row, value: u64) -> bool {
+        let (_, _, sums) = self.spend(others, self.total - value);
+        self.met(self.with(sums, 1, value))
+    }
+
+    /// Whether the limits are met where the others are at their row and a member takes what is left of the total.
+    pub fn met_at(&self, others: Row) -> bool {
+        self.met(self.with(others.sums, 1, self.total - others.sums.total))
+    }
+}

@@ -1,0 +1,84 @@
+//! Narrowing in plain Rust by breakpoints, with two ways to look for the ends of a range; same answers as the independent
+//! planner, which walks the group at each step. And settling with them.
+
+mod breakpoints;
+mod probes;
+mod rows;
+
+use breakpoints::{Member, Table};
+use danivomel_tests::answers::{Limits, Refusal, Unsettled};
+use danivomel_tests::independent::level::{clamp, has_shares};
+use danivomel_tests::independent::narrow::check_lists;
+use danivomel_tests::independent::settle::{check_job, settle_groups, Narrowing};
+
+/// Narrows, looking for each end by bisection over values.
+pub fn narrow_by_probes(lows: &mut [u64], highs: &mut [u64], total: u64, limits: Limits) -> Result<(), Refusal> {
+    check_lists(lows, highs, total, limits)?;
+    members_by_probes(lows, highs, total, limits).map_err(|number| Refusal { number, place: 0 })
+}
+
+/// Narrows, looking for each end by bisection over rows, and then over the values between two rows.
+pub fn narrow_by_rows(lows: &mut [u64], highs: &mut [u64], total: u64, limits: Limits) -> Result<(), Refusal> {
+    check_lists(lows, highs, total, limits)?;
+    members_by_rows(lows, highs, total, limits).map_err(|number| Refusal { number, place: 0 })
+}
+
+/// Settles by probes.
+pub fn settle_by_probes(
+    text: &[u8],
+    lows: &mut [u64],
+    highs: &mut [u64],
+    scratch: &mut [u64],
+) -> Result<u64, Unsettled> {
+    settle_by(text, lows, highs, scratch, members_by_probes)
+}
+
+/// Settles by rows.
+pub fn settle_by_rows(text: &[u8], lows: &mut [u64], highs: &mut [u64], scratch: &mut [u64]) -> Result<u64, Unsettled> {
+    settle_by(text, lows, highs, scratch, members_by_rows)
+}
+
+/// Narrows ranges that were checked, by probes.
+fn members_by_probes(lows: &mut [u64], highs: &mut [u64], total: u64, limits: Limits) -> Result<(), u64> {
+    narrow_members(lows, highs, total, limits, probes::ends)
+}
+
+/// Narrows ranges that were checked, by rows.
+fn members_by_rows(lows: &mut [u64], highs: &mut [u64], total: u64, limits: Limits) -> Result<(), u64> {
+    narrow_members(lows, highs, total, limits, rows::ends)
+}
+
+/// Narrows ranges that were checked; answers 11 or 12 where there is no plan, and then changes nothing.
+fn narrow_members(
+    lows: &mut [u64],
+    highs: &mut [u64],
+    total: u64,
+    limits: Limits,
+    ends: impl Fn(&Table, Member) -> (u64, u64),
+) -> Result<(), u64> {
+    if !has_shares(lows, highs, total) {
+        return Err(11);
+    }
+    let table = Table::of(lows, highs, total, limits);
+    let (level, mut left) = table.levelled().ok_or(12u64)?;
+    for (low, high) in lows.iter_mut().zip(highs.iter_mut()) {
+        let more = u64::from(left > 0 && *low <= level && level < *high);
+        let share = clamp(*low, *high, level) + more;
+        left -= more;
+        (*low, *high) = ends(&table, Member { low: *low, high: *high, share });
+    }
+    Ok(())
+}
+
+/// Settles with a way to narrow.
+fn settle_by(
+    text: &[u8],
+    lows: &mut [u64],
+    highs: &mut [u64],
+    scratch: &mut [u64],
+    narrow: Narrowing,
+) -> Result<u64, Unsettled> {
+    let job = check_job(text, lows, highs, scratch.len()).map_err(|refusal| Unsettled { refusal, passes: 0 })?;
+    let units = job.lows.len();
+    settle_groups(&job.groups, &mut lows[..units], &mut highs[..units], narrow)
+}

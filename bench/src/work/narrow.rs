@@ -1,0 +1,165 @@
+//! Narrowing one group: for the first time, and again once nothing moves.
+
+use crate::check::{covers, same};
+use crate::gecode::{self, Form, Outcome, Posted, Problem};
+use crate::jobs::{groups_of, Tightness, COMMON, SIZES};
+use crate::planners::{BISECTION, GECODE, GECODE_ALONE, NARROWS, PLANNER, PROBES, ROWS, SAME_WAY};
+use crate::table::{digits, Table};
+use crate::timing::{in_turn, Contender, Times};
+use crate::work::lone;
+use danivomel_tests::answers::Narrow;
+use danivomel_tests::cases::groups::GroupCase;
+use danivomel_tests::independent::{self, GREATEST_SHARE};
+use std::hint::black_box;
+
+/// What was timed: the members, the limits, whether for the first time, and the times.
+pub struct Timed {
+    pub n: usize,
+    pub tightness: Tightness,
+    pub first: bool,
+    pub times: Times,
+}
+
+/// Times narrowing for every size, with shares that Gecode can square.
+pub fn run() -> (Table, Vec<Timed>) {
+    let head = [
+        "members",
+        "limits",
+        "call",
+        "planner, µs",
+        "plain Rust, bisection, µs",
+        "plain Rust, breakpoints, µs",
+        "plain Rust, rows, µs",
+        "Gecode, µs",
+        "Gecode, propagation alone, µs",
+        "planner / plain Rust, same way",
+        "planner / Gecode",
+    ];
+    let mut table = Table::new("narrow", &head);
+    let mut all = vec![];
+    for n in SIZES {
+        for (tightness, first) in kinds() {
+            let times = measure(n, COMMON, tightness, first, true);
+            let mut row = row(n, tightness, first, &times);
+            row.push(digits(times.of(GECODE)));
+            row.push(digits(times.of(GECODE_ALONE)));
+            row.push(digits(times.ratio(PLANNER, SAME_WAY)));
+            row.push(digits(times.ratio(PLANNER, GECODE)));
+            table.add(row);
+            all.push(Timed { n, tightness, first, times });
+        }
+    }
+    (table, all)
+}
+
+/// Times narrowing with shares up to the greatest, where Gecode cannot take part.
+pub fn run_wide() -> Table {
+    let head = [
+        "members",
+        "limits",
+        "call",
+        "planner, µs",
+        "plain Rust, bisection, µs",
+        "plain Rust, breakpoints, µs",
+        "plain Rust, rows, µs",
+        "planner / plain Rust, same way",
+    ];
+    let mut table = Table::new("narrow_wide", &head);
+    for n in [8, 64, 256] {
+        for (tightness, first) in kinds() {
+            let times = measure(n, GREATEST_SHARE, tightness, first, false);
+            let mut row = row(n, tightness, first, &times);
+            row.push(digits(times.ratio(PLANNER, SAME_WAY)));
+            table.add(row);
+        }
+    }
+    table
+}
+
+/// The four kinds of calls.
+fn kinds() -> [(Tightness, bool); 4] {
+    use Tightness::{Loose, Tight};
+    [(Loose, true), (Loose, false), (Tight, true), (Tight, false)]
+}
+
+/// The cells that both tables begin with.
+fn row(n: usize, tightness: Tightness, first: bool, times: &Times) -> Vec<String> {
+    vec![
+        n.to_string(),
+        format!("{tightness:?}").to_lowercase(),
+        if first { "first" } else { "quiet" }.to_string(),
+        digits(times.of(PLANNER)),
+        digits(times.of(BISECTION)),
+        digits(times.of(PROBES)),
+        digits(times.of(ROWS)),
+    ]
+}
+
+/// Times all contenders on groups of one size.
+fn measure(n: usize, greatest: u64, tightness: Tightness, first: bool, gecode: bool) -> Times {
+    let mut groups = groups_of(n, greatest, tightness);
+    let mut narrowed = groups.clone();
+    for case in &mut narrowed {
+        independent::narrow(&mut case.lows, &mut case.highs, case.total, case.limits).expect("the group has a plan");
+    }
+    if !first {
+        groups = narrowed.clone();
+    }
+    let mut contenders: Vec<Contender> = vec![];
+    for &(name, narrow) in NARROWS {
+        compare(name, narrow, &groups, &narrowed);
+        contenders.push(if first { first_call(name, narrow, &groups) } else { quiet_call(name, narrow, &groups) });
+    }
+    if gecode {
+        compare_gecode(&groups, &narrowed);
+        contenders.extend(gecode::contenders(groups.iter().map(problem).collect()));
+    }
+    in_turn(contenders, groups.len())
+}
+
+/// A group as Gecode takes it.
+fn problem(case: &GroupCase) -> Problem<'_> {
+    Problem { lows: &case.lows, highs: &case.highs, posted: Posted::of(&[lone(case)]) }
+}
+
+/// Compares a planner's ranges with those of the independent one.
+fn compare(name: &str, narrow: Narrow, groups: &[GroupCase], narrowed: &[GroupCase]) {
+    for (case, expected) in groups.iter().zip(narrowed) {
+        let mut after = case.clone();
+        same(name, "narrowing", narrow(&mut after.lows, &mut after.highs, case.total, case.limits), Ok(()));
+        same(name, "narrowed ranges", &after, expected);
+    }
+}
+
+/// Narrows a copy of all groups.
+fn first_call<'a>(name: &'static str, narrow: Narrow, groups: &'a [GroupCase]) -> Contender<'a> {
+    let (mut lows, mut highs) = (groups[0].lows.clone(), groups[0].highs.clone());
+    Contender::whole(name, move || {
+        for case in groups {
+            lows.copy_from_slice(&case.lows);
+            highs.copy_from_slice(&case.highs);
+            let _ = black_box(narrow(black_box(&mut lows), &mut highs, case.total, case.limits));
+        }
+    })
+}
+
+/// Narrows all groups in place: nothing moves.
+fn quiet_call<'a>(name: &'static str, narrow: Narrow, groups: &'a [GroupCase]) -> Contender<'a> {
+    let mut groups = groups.to_vec();
+    Contender::whole(name, move || {
+        for case in &mut groups {
+            let _ = black_box(narrow(black_box(&mut case.lows), &mut case.highs, case.total, case.limits));
+        }
+    })
+}
+
+/// Checks that Gecode keeps every value that some plan takes.
+fn compare_gecode(groups: &[GroupCase], narrowed: &[GroupCase]) {
+    for (case, taken) in groups.iter().zip(narrowed) {
+        let mut left = case.clone();
+        let posted = Posted::of(&[lone(case)]);
+        let (outcome, _) = gecode::propagate(&posted, &mut left.lows, &mut left.highs, Form::Centred);
+        same(GECODE, "posting and propagating", matches!(outcome, Outcome::Left(_)), true);
+        covers(GECODE, "narrowing", (&left.lows, &left.highs), (&taken.lows, &taken.highs));
+    }
+}

@@ -1,0 +1,65 @@
+//! Reading job texts.
+
+use crate::check::same;
+use crate::jobs::{long_text, sound_text};
+use crate::planners::{BISECTION, PLANNER, READS};
+use crate::table::{digits, Table};
+use crate::timing::{in_turn, Contender, Times};
+use danivomel_tests::answers::Read;
+use danivomel_tests::independent::{self, MOST_UNITS};
+use std::hint::black_box;
+
+/// Times reading.
+pub fn run() -> (Table, Vec<Times>) {
+    let head = [
+        "text",
+        "bytes",
+        "lines",
+        "answer",
+        "planner, µs",
+        "plain Rust, µs",
+        "planner / plain Rust",
+        "planner, ns a byte",
+    ];
+    let mut table = Table::new("read", &head);
+    let mut all = vec![];
+    let texts = [
+        ("1 KiB", sound_text(1_024)),
+        ("8 KiB", sound_text(8 * 1_024)),
+        ("24 KiB", sound_text(24 * 1_024)),
+        ("64 KiB", long_text(64 * 1_024)),
+    ];
+    for (name, text) in texts {
+        let times = in_turn(READS.iter().map(|who| contender(*who, &text)).collect(), 1);
+        let (mut lows, mut highs) = (vec![0; MOST_UNITS], vec![0; MOST_UNITS]);
+        let answer = match independent::read(&text, &mut lows, &mut highs) {
+            Ok(counts) => format!("{} units, {} groups", counts.units, counts.groups),
+            Err(refusal) => format!("refused {} at line {}", refusal.number, refusal.place),
+        };
+        table.add(vec![
+            name.to_string(),
+            text.len().to_string(),
+            text.iter().filter(|&&byte| byte == 10).count().to_string(),
+            answer,
+            digits(times.of(PLANNER)),
+            digits(times.of(BISECTION)),
+            digits(times.ratio(PLANNER, BISECTION)),
+            digits(times.of(PLANNER).map(|time| 1_000.0 * time / text.len() as f64)),
+        ]);
+        all.push(times);
+    }
+    (table, all)
+}
+
+/// A contender that reads a text, after its answer was compared.
+fn contender<'a>(who: (&'static str, Read), text: &'a [u8]) -> Contender<'a> {
+    let (name, read) = who;
+    let table = || (vec![7; MOST_UNITS], vec![8; MOST_UNITS]);
+    let ((mut lows, mut highs), mut expected) = (table(), table());
+    let answer = independent::read(text, &mut expected.0, &mut expected.1);
+    same(name, "reading", read(text, &mut lows, &mut highs), answer);
+    same(name, "table filled", (lows.clone(), highs.clone()), expected);
+    Contender::whole(name, move || {
+        let _ = black_box(read(black_box(text), &mut lows, &mut highs));
+    })
+}

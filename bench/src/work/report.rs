@@ -1,0 +1,68 @@
+//! Reporting: a job that is settled already, so that one quiet pass and the report are timed.
+
+use crate::check::same;
+use crate::jobs::job;
+use crate::planners::{BISECTION, PLANNER, REPORTS};
+use crate::table::{digits, Table};
+use crate::timing::{in_turn, Contender};
+use danivomel_tests::answers::Report;
+use danivomel_tests::cases::jobs::print_job;
+use danivomel_tests::independent::{self, MOST_BYTES, SCRATCH_PER_UNIT};
+use std::hint::black_box;
+
+/// A job's text and its settled table.
+struct Settled {
+    text: Vec<u8>,
+    lows: Vec<u64>,
+    highs: Vec<u64>,
+}
+
+/// Times reporting.
+pub fn run() -> Table {
+    let head = ["job", "report, bytes", "planner, µs", "plain Rust, bisection, µs", "planner / plain Rust"];
+    let mut table = Table::new("report", &head);
+    for (groups, n) in [(8, 8), (64, 8), (16, 256)] {
+        let settled = settled(groups, n);
+        let mut buffer = vec![0; MOST_BYTES];
+        let length = settled.report(independent::report, &mut buffer);
+        let contenders = REPORTS.iter().map(|who| contender(*who, &settled, &buffer)).collect();
+        let times = in_turn(contenders, 1);
+        table.add(vec![
+            format!("{groups} × {n}"),
+            length.to_string(),
+            digits(times.of(PLANNER)),
+            digits(times.of(BISECTION)),
+            digits(times.ratio(PLANNER, BISECTION)),
+        ]);
+    }
+    table
+}
+
+/// A random job, settled.
+fn settled(groups: usize, n: usize) -> Settled {
+    let job = job(groups, n);
+    let (text, mut lows, mut highs) = (print_job(&job), job.lows, job.highs);
+    let mut scratch = vec![0; SCRATCH_PER_UNIT * lows.len()];
+    independent::settle(&text, &mut lows, &mut highs, &mut scratch).expect("the job settles");
+    Settled { text, lows, highs }
+}
+
+impl Settled {
+    /// Reports the job into a buffer; the report's length.
+    fn report(&self, report: Report, buffer: &mut [u8]) -> u64 {
+        let (mut lows, mut highs) = (self.lows.clone(), self.highs.clone());
+        let mut scratch = vec![0; SCRATCH_PER_UNIT * lows.len()];
+        report(&self.text, &mut lows, &mut highs, &mut scratch, buffer).expect("the job is settled")
+    }
+}
+
+/// A contender that reports, after its report was compared.
+fn contender<'a>(who: (&'static str, Report), settled: &'a Settled, expected: &[u8]) -> Contender<'a> {
+    let (name, report) = who;
+    let mut buffer = vec![0; MOST_BYTES];
+    settled.report(report, &mut buffer);
+    same(name, "report", buffer == expected, true);
+    Contender::whole(name, move || {
+        black_box(settled.report(report, black_box(&mut buffer)));
+    })
+}

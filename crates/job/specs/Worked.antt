@@ -1,0 +1,46 @@
+-- The worked job of 01, read by computing. Assumes nothing.
+use Prim.Native.Nat.{ℕ}
+use mathlib.Core.List.{List, [], _∷_, _++_}
+use mathlib.Core.Path.{_≡_, refl}
+use Rattle.model.specs.declared.Limit.the-variants.{Any, AtMost}
+use Rattle.text.specs.Parsed.{andThen, mapped, orElse, word}
+use Rattle.text.specs.Numbers.{number, numberAfter, digits, digitsOf, printNumber}
+use Rattle.job.specs.Form.{Line, unit, group, printLimit, printMembers, printLine, numberAs, limitAs, unitAs, membersAs, headAs, grouped, groupAs, lineAs, line}
+use Rattle.job.specs.Job.{Job, memberships, allNamed, holds, distinct, unitVerdict, headVerdict, membersVerdict, verdict, add, stepOn, Outcome, accepted, onward, readLines, someUnit, readJob}
+use Rattle.job.specs.Flat.{flatten}
+
+-- the lines of the job text in 01
+unfoldable pub workedLines : List Line
+workedLines =
+    unit (record { low = 0; high = 10 })
+    ∷ unit (record { low = 0; high = 10 })
+    ∷ unit (record { low = 0; high = 10 })
+    ∷ group (record { total = 10; limits = record { deviation = AtMost 4; spread = Any }; first = 1; others = 2 ∷ [] })
+    ∷ group (record { total = 8; limits = record { deviation = Any; spread = AtMost 4 }; first = 2; others = 3 ∷ [] })
+    ∷ []
+
+unfoldable pub printLines : List Line → List ℕ
+printLines [] = []
+printLines (l ∷ ls) = printLine l ++ printLines ls
+
+-- the job that they are
+unfoldable pub workedJob : Job
+workedJob =
+    record {
+      lows = 0 ∷ 0 ∷ 0 ∷ [];
+      highs = 10 ∷ 10 ∷ 10 ∷ [];
+      groups =
+          record { total = 10; limits = record { deviation = AtMost 4; spread = Any }; members = 0 ∷ 1 ∷ [] }
+          ∷ record { total = 8; limits = record { deviation = Any; spread = AtMost 4 }; members = 1 ∷ 2 ∷ [] }
+          ∷ [];
+    }
+
+-- it reads so
+pub worked-reads : readJob (printLines workedLines) ≡ accepted workedJob
+unfolding workedLines printLines workedJob printLine printLimit printMembers printNumber digitsOf readJob readLines onward someUnit stepOn verdict unitVerdict headVerdict membersVerdict allNamed holds distinct memberships add line lineAs unitAs groupAs headAs limitAs numberAs membersAs grouped numberAfter number digits andThen mapped orElse word
+worked-reads = refl
+
+-- and its groups are these numbers
+pub worked-flat : flatten (workedJob .groups) ≡ 10 ∷ 5 ∷ 0 ∷ 2 ∷ 0 ∷ 1 ∷ 8 ∷ 0 ∷ 5 ∷ 2 ∷ 1 ∷ 2 ∷ []
+unfolding workedJob flatten
+worked-flat = refl

@@ -1,0 +1,72 @@
+// Building the breakpoint table of a group: the bounds sorted, then a row for each.
+use crate::order::sort;
+use crate::rows::read_row;
+use crate::rows::write_row;
+use crate::table::first_row;
+use crate::table::next_row;
+ghost use mathlib.Core.Path.{_≡_};
+ghost use Prim.Native.Nat.{_+_, _*_, _≤_};
+ghost use lib.ListN.{length};
+ghost use Rattle.probe.specs.Orders.{Ordered};
+ghost use Rattle.probe.specs.Tables.{Sound, Table};
+ghost use Rattle.probe.specs.Steps.{Risen};
+
+// Copies a list over another of the same length.
+pub fn copy(from: &[u64], to: &mut [u64])
+    requires { ⌜ length (now to) ≡ length (now from) ⌝ }
+    ensures { λ _. ⌜ now (to .exit) ≡ now (from .entry) ⌝ }
+{
+    let mut i: usize = 0;
+    while i < from.len() {
+        to[i] = from[i];
+        i += 1;
+    }
+}
+
+// Fills the table from the sorted bounds, row after row.
+fn fill(lows: &[u64], highs: &[u64], starts: &[u64], stops: &[u64], total: u64, table: &mut [u64])
+    requires { ⌜ Sound (now lows) (now highs) total ⌝ }
+    requires { ⌜ Risen (now lows) (now highs) (now starts) (now stops) ⌝ }
+    requires { ⌜ 6 * (2 * length (now lows)) + 6 ≤ length (now table) ⌝ }
+    ensures { λ _. ⌜ Table (now (lows .entry)) (now (highs .entry)) total (now (table .exit)) ⌝ }
+{
+    let last = 2 * lows.len();
+    let first = first_row(lows, highs, total);
+    write_row(table, 0, first);
+    let mut k: usize = 0;
+    while k < last {
+        let row = read_row(table, k);
+        let next = next_row(lows, highs, starts, stops, total, row);
+        k += 1;
+        write_row(table, k, next);
+    }
+}
+
+// Copies a list over another of the same length and sorts it.
+fn rising(from: &[u64], to: &mut [u64])
+    requires { ⌜ length (now to) ≡ length (now from) ⌝ }
+    ensures { λ _. ⌜ Ordered 1 (length (now (from .entry))) (now (from .entry)) (now (to .exit)) ⌝ }
+{
+    copy(from, to);
+    sort(to);
+}
+
+// Builds the table of a group. The two further lists, as long as the group, hold the sorted lows and highs afterwards.
+pub fn build(
+    lows: &[u64],
+    highs: &[u64],
+    starts: &mut [u64],
+    stops: &mut [u64],
+    total: u64,
+    table: &mut [u64],
+)
+    requires { ⌜ Sound (now lows) (now highs) total ⌝ }
+    requires { ⌜ length (now starts) ≡ length (now lows) ⌝ }
+    requires { ⌜ length (now stops) ≡ length (now highs) ⌝ }
+    requires { ⌜ 6 * (2 * length (now lows)) + 6 ≤ length (now table) ⌝ }
+    ensures { λ _. ⌜ Table (now (lows .entry)) (now (highs .entry)) total (now (table .exit)) ⌝ }
+{
+    rising(lows, starts);
+    rising(highs, stops);
+    fill(lows, highs, starts, stops, total, table);
+}

@@ -1,0 +1,8 @@
+// The breakpoint table of a group, and probes of pinned values on it.
+pub mod build;
+pub mod figures;
+pub mod order;
+pub mod pins;
+pub mod probing;
+pub mod rows;
+pub mod table;

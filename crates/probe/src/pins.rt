@@ -1,0 +1,91 @@
+// The pinned group's level, from the table.
+use crate::rows::Row;
+use crate::rows::read_row;
+ghost use mathlib.Core.Path.{_≡_};
+ghost use Prim.Native.Nat.{_+_, _≤_, _<_};
+ghost use Rattle.model.specs.Levels.{clamp, growth};
+ghost use Rattle.probe.specs.Rows.{rowAt};
+ghost use Rattle.probe.specs.Probes.{Pinnable, Probeable, Found, Divided, pinnedTotal};
+
+// A level, how many members grew up to it from the row below, and the copies left over there.
+pub struct Reach {
+    pub growing: u64,
+    pub level: u64,
+    pub over: u64,
+}
+
+// A level moved into a range.
+pub fn clamp(low: u64, high: u64, v: u64) -> u64
+    requires { ⌜ low ≤ high ⌝ }
+    ensures { λ r. ⌜ r ≡ clamp low high v ⌝ }
+{
+    if v < low {
+        return low;
+    }
+    if high < v {
+        return high;
+    }
+    v
+}
+
+// Whether a member can take one copy more at a level: 1 or 0.
+fn growth(low: u64, high: u64, v: u64) -> u64
+    ensures { λ r. ⌜ r ≡ growth low high v ⌝ }
+{
+    if v < low {
+        return 0;
+    }
+    if high <= v {
+        return 0;
+    }
+    1
+}
+
+// T at a row's level of the group with v in place of a member's own.
+pub fn pinned_total(row: Row, low: u64, high: u64, v: u64) -> u64
+    requires { ⌜ Pinnable row low high v ⌝ }
+    ensures { λ r. ⌜ r ≡ pinnedTotal row low high v ⌝ }
+{
+    row.total + v - clamp(low, high, row.mark)
+}
+
+// The last row with the pinned group's T at most the total, by bisection between k, which has it, and top, which has not or is past the last.
+pub fn last_within(table: &[u64], last: usize, low: u64, high: u64, v: u64, total: u64) -> usize
+    requires { ⌜ Probeable (now table) last low high v ⌝ }
+    requires { ⌜ pinnedTotal (rowAt (now table) 0) low high v ≤ total ⌝ }
+    ensures { λ r. ⌜ Found (now (table .entry)) last low high v total r ⌝ }
+{
+    let mut k: usize = 0;
+    let mut top: usize = last + 1;
+    while 1 < top - k {
+        let middle = k + (top - k) / 2;
+        let row = read_row(table, middle);
+        if pinned_total(row, low, high, v) <= total {
+            k = middle;
+        } else {
+            top = middle;
+        }
+    }
+    k
+}
+
+// The level that the copies left over at a row reach.
+pub fn reach_from(row: Row, low: u64, high: u64, left: u64) -> Reach
+    requires { ⌜ (0 < left → row .highs + growth low high (row .mark) < row .lows) ⌝ }
+    requires { ⌜ row .mark + left ≤ 1_000_000_000 ⌝ }
+    ensures { λ r. ⌜ Divided row low high left r ⌝ }
+{
+    if left == 0 {
+        return Reach {
+            growing: 0,
+            level: row.mark,
+            over: 0,
+        };
+    }
+    let growing = row.lows - (row.highs + growth(low, high, row.mark));
+    Reach {
+        growing,
+        level: row.mark + left / growing,
+        over: left % growing,
+    }
+}

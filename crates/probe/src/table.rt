@@ -1,0 +1,138 @@
+// Building the breakpoint table of a group.
+use crate::rows::Row;
+ghost use mathlib.Core.Path.{_≡_};
+ghost use Prim.Native.Nat.{suc, _+_, _*_, _≤_, _<_};
+ghost use Rattle.model.specs.Shares.{greatestShare};
+ghost use lib.ListN.{length};
+ghost use Rattle.probe.specs.Walks.{First};
+ghost use Rattle.probe.specs.Steps.{Risen, Walk, Stepped, Begun};
+ghost use Rattle.probe.specs.Tables.{Sound, Sums, SpanTo, Movable, Moved, fromMean, square};
+
+// A share's part of the deviation.
+pub fn from_mean(count: u64, total: u64, x: u64) -> u64
+    requires { ⌜ count ≤ 256 ⌝ }
+    requires { ⌜ x ≤ suc greatestShare ⌝ }
+    ensures { λ r. ⌜ r ≡ fromMean count total x ⌝ }
+{
+    let scaled = count * x;
+    if scaled <= total {
+        return total - scaled;
+    }
+    scaled - total
+}
+
+// A share's part of the sum of squares.
+pub fn square(x: u64) -> u64
+    requires { ⌜ x ≤ suc greatestShare ⌝ }
+    ensures { λ r. ⌜ r ≡ square x ⌝ }
+{
+    x * x
+}
+
+// A sum after some parts have moved from one value to another, and others back.
+fn moved(stored: u64, up: u64, down: u64, from: u64, to: u64) -> u64
+    requires { ⌜ Movable stored up down from to ⌝ }
+    ensures { λ r. ⌜ r + (up * from + down * to) ≡ stored + (up * to + down * from) ⌝ }
+{
+    stored + (up * to + down * from) - (up * from + down * to)
+}
+
+// A row moved to a further level, with no bound between.
+fn row_at(lows: &[u64], highs: &[u64], total: u64, row: Row, mark: u64) -> Row
+    requires { ⌜ Sound (now lows) (now highs) total ⌝ }
+    requires { ⌜ Sums (now lows) (now highs) total row ⌝ }
+    requires { ⌜ SpanTo (now lows) (now highs) row mark ⌝ }
+    requires { ⌜ mark ≤ greatestShare ⌝ }
+    ensures { λ r. ⌜ Moved (now (lows .entry)) (now (highs .entry)) total row mark r ⌝ }
+{
+    let count = lows.len() as u64;
+    Row {
+        mark,
+        total: moved(row.total, row.lows, row.highs, row.mark, mark),
+        deviation: moved(
+            row.deviation,
+            row.lows,
+            row.highs,
+            from_mean(count, total, row.mark),
+            from_mean(count, total, mark),
+        ),
+        squares: moved(
+            row.squares,
+            row.lows,
+            row.highs,
+            square(row.mark),
+            square(mark),
+        ),
+        lows: row.lows,
+        highs: row.highs,
+    }
+}
+
+// Whether the next bound on the way up, after a lows and b highs, is a low.
+fn low_first(lows: &[u64], highs: &[u64], a: usize, b: usize) -> bool
+    requires { ⌜ a ≤ length (now lows) ⌝ }
+    requires { ⌜ b ≤ length (now highs) ⌝ }
+    requires { ⌜ a + b < length (now lows) + length (now highs) ⌝ }
+    ensures { λ r. ⌜ First (now (lows .entry)) (now (highs .entry)) a b r ⌝ }
+{
+    if a == lows.len() {
+        return false;
+    }
+    if b == highs.len() {
+        return true;
+    }
+    lows[a] <= highs[b]
+}
+
+// The row for the next bound on the way up.
+pub fn next_row(
+    lows: &[u64],
+    highs: &[u64],
+    starts: &[u64],
+    stops: &[u64],
+    total: u64,
+    row: Row,
+) -> Row
+    requires { ⌜ Sound (now lows) (now highs) total ⌝ }
+    requires { ⌜ Risen (now lows) (now highs) (now starts) (now stops) ⌝ }
+    requires { ⌜ Walk (now lows) (now highs) (now starts) (now stops) total row ⌝ }
+    requires { ⌜ row .lows + row .highs < 2 * length (now lows) ⌝ }
+    ensures { λ r. ⌜ Stepped (now (lows .entry)) (now (highs .entry)) (now (starts .entry)) (now (stops .entry)) total row r ⌝ }
+{
+    let a = row.lows as usize;
+    let b = row.highs as usize;
+    if low_first(starts, stops, a, b) {
+        let mut low = row_at(lows, highs, total, row, starts[a]);
+        low.lows += 1;
+        return low;
+    }
+    let mut high = row_at(lows, highs, total, row, stops[b]);
+    high.highs += 1;
+    high
+}
+
+// The row for level 0, at which the shares are the lows.
+pub fn first_row(lows: &[u64], highs: &[u64], total: u64) -> Row
+    requires { ⌜ Sound (now lows) (now highs) total ⌝ }
+    ensures { λ r. ⌜ Begun (now (lows .entry)) (now (highs .entry)) total r ⌝ }
+{
+    let count = lows.len() as u64;
+    let mut copies: u64 = 0;
+    let mut deviation: u64 = 0;
+    let mut squares: u64 = 0;
+    let mut i: usize = 0;
+    while i < lows.len() {
+        copies += lows[i];
+        deviation += from_mean(count, total, lows[i]);
+        squares += square(lows[i]);
+        i += 1;
+    }
+    Row {
+        mark: 0,
+        total: copies,
+        deviation,
+        squares,
+        lows: 0,
+        highs: 0,
+    }
+}

@@ -1,0 +1,156 @@
+// Reading a job text into a table of ranges, and settling it over one: thin functions above those on two lists of numbers.
+// A function that holds a table or a reader is proved by a walk of its MIR, by hand.
+use job::Reading;
+use works::Settling;
+ghost use mathlib.Core.Path.{_≡_};
+ghost use Prim.Native.Nat.{_≤_, min};
+ghost use lib.ListN.{length, drop};
+ghost use Rattle.job.specs.Reading.{Filled};
+ghost use Rattle.works.specs.Calls.{settlement, settleText};
+ghost use Rattle.table.specs.Tables.{lowsOf, highsOf, boundsOf, over, ranges, afterSettling, afterReading};
+
+// The range of a unit.
+pub struct Range {
+    pub low: u64,
+    pub high: u64,
+}
+
+// The lows and the highs of a table's first entries, and how many they are.
+struct Bounds {
+    lows: [u64; 256],
+    highs: [u64; 256],
+    count: usize,
+}
+
+// A job has at most 256 units, so no more entries are looked at.
+fn capped(entries: usize) -> usize
+    ensures { λ r. ⌜ r ≡ min entries 256 ⌝ }
+{
+    if entries < 256 {
+        return entries;
+    }
+    256
+}
+
+// The bounds of a table.
+fn take_bounds(table: &[Range]) -> Bounds
+    ensures { λ r. ⌜ r ≡ boundsOf (now (table .entry)) ⌝ }
+{
+    let mut lows = [0u64; 256];
+    let mut highs = [0u64; 256];
+    let count = capped(table.len());
+    let mut i: usize = 0;
+    while i < count {
+        let entry = table[i];
+        lows[i] = entry.low;
+        highs[i] = entry.high;
+        i = i + 1;
+    }
+    Bounds { lows, highs, count }
+}
+
+// The table with these bounds; entries past the count keep their values.
+fn put_bounds(table: &mut [Range], bounds: Bounds)
+    requires { ⌜ bounds .count ≤ min (length (now table)) 256 ⌝ }
+    ensures { λ _. ⌜ now (table .exit) ≡ over (bounds .count) (ranges (bounds .lows) (bounds .highs)) (now (table .entry)) ⌝ }
+{
+    let lows = bounds.lows;
+    let highs = bounds.highs;
+    let count = bounds.count;
+    let mut i: usize = 0;
+    while i < count {
+        table[i] = Range {
+            low: lows[i],
+            high: highs[i],
+        };
+        i = i + 1;
+    }
+}
+
+// What settling over bounds hands back: the bounds after it, and its answer.
+struct SettledBounds {
+    bounds: Bounds,
+    answer: Settling,
+}
+
+// Settles a job text over bounds.
+fn settle_bounds(text: &[u8], bounds: Bounds, scratch: &mut [u64]) -> SettledBounds
+    requires { ⌜ bounds .count ≤ 256 ⌝ }
+    ensures { λ r. ⌜ r ≡ afterSettling (now (text .entry)) bounds (length (now (scratch .entry))) ⌝ }
+{
+    let mut lows = bounds.lows;
+    let mut highs = bounds.highs;
+    let count = bounds.count;
+    let answer = works::calls::settle(text, &mut lows[..count], &mut highs[..count], scratch);
+    let after = Bounds { lows, highs, count };
+    SettledBounds {
+        bounds: after,
+        answer,
+    }
+}
+
+// Settles a job text over a table, as works::calls::settle does over its lows and highs.
+pub fn settle(text: &[u8], table: &mut [Range], scratch: &mut [u64]) -> Settling
+    ensures { λ r. ⌜ settlement r (lowsOf (now (table .exit))) (highsOf (now (table .exit))) ≡ settleText (now (text .entry)) (lowsOf (now (table .entry))) (highsOf (now (table .entry))) (length (now (scratch .entry))) ⌝ }
+{
+    let before = take_bounds(table);
+    let settled = settle_bounds(text, before, scratch);
+    put_bounds(table, settled.bounds);
+    settled.answer
+}
+
+// The job text, with the spot that reading has reached.
+pub struct Reader<'a> {
+    text: &'a [u8],
+    at: usize,
+}
+
+// What reading into bounds hands back: the bounds after it, and its answer.
+struct ReadBounds {
+    bounds: Bounds,
+    answer: Reading,
+}
+
+// Reads a text from a spot on into bounds.
+fn read_bounds(text: &[u8], at: usize, bounds: Bounds) -> ReadBounds
+    requires { ⌜ (at ≤ length (now text)) × (bounds .count ≤ 256) ⌝ }
+    ensures { λ r. ⌜ r ≡ afterReading (drop at (now (text .entry))) bounds ⌝ }
+{
+    let mut lows = bounds.lows;
+    let mut highs = bounds.highs;
+    let count = bounds.count;
+    let answer = job::read(&text[at..], &mut lows[..count], &mut highs[..count]);
+    let after = Bounds { lows, highs, count };
+    ReadBounds {
+        bounds: after,
+        answer,
+    }
+}
+
+impl<'a> Reader<'a> {
+    // At the start of the text.
+    pub fn new(text: &'a [u8]) -> Reader<'a>
+        ensures { λ r. ⌜ (r .text ≡ text .entry) × (r .at ≡ 0) ⌝ }
+    {
+        Reader { text, at: 0 }
+    }
+
+    // Reads from the spot on.
+    fn read_on(self, bounds: Bounds) -> ReadBounds
+        requires { ⌜ (self .at ≤ length (now (self .text))) × (bounds .count ≤ 256) ⌝ }
+        ensures { λ r. ⌜ r ≡ afterReading (drop (self .entry .at) (now (self .entry .text))) bounds ⌝ }
+    {
+        read_bounds(self.text, self.at, bounds)
+    }
+}
+
+// Reads a job text into a table, as job::read does into its lows and highs.
+pub fn read(text: &[u8], table: &mut [Range]) -> Reading
+    ensures { λ r. ⌜ Filled (now (text .entry)) (lowsOf (now (table .entry))) (highsOf (now (table .entry))) (lowsOf (now (table .exit))) (highsOf (now (table .exit))) r ⌝ }
+{
+    let reader = Reader::new(text);
+    let before = take_bounds(table);
+    let found = reader.read_on(before);
+    put_bounds(table, found.bounds);
+    found.answer
+}
