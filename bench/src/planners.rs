@@ -20,7 +20,7 @@ pub const GECODE: &str = "Gecode";
 pub const GECODE_ALONE: &str = "Gecode, propagation alone";
 
 /// The plain Rust that goes the way of the proved planner's narrowing. To change with it.
-pub const SAME_WAY: &str = BISECTION;
+pub const SAME_WAY: &str = PROBES;
 
 /// Who levels.
 pub const LEVELS: &[(&str, Level)] = &[

@@ -2,8 +2,8 @@
 use borrow.Author.Needs.{needs}
 use mathlib.Core.Path.{ap}
 use Rattle.works.specs.Calls.{Settlement}
-use Rattle.planner.proofs.danivomel_settle.Statement.{statement}
-use Rattle.planner.proofs.danivomel_settle.Tie as tie
+use Rattle.planner.proofs.texts.danivomel_settle.Statement.{statement}
+use Rattle.planner.proofs.texts.danivomel_settle.Tie as tie
 
 settle-requires : tie.Need-settle-requires
 settle-requires c κs = search needs

@@ -1,7 +1,7 @@
 -- The exported reading answers what job::read does, and leaves the same table. Assumes nothing.
 use borrow.Author.Needs.{needs}
-use Rattle.planner.proofs.danivomel_read.Statement.{statement}
-use Rattle.planner.proofs.danivomel_read.Tie as tie
+use Rattle.planner.proofs.texts.danivomel_read.Statement.{statement}
+use Rattle.planner.proofs.texts.danivomel_read.Tie as tie
 
 read-requires : tie.Need-read-requires
 read-requires c κs = search needs

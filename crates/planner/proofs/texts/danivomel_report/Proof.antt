@@ -2,8 +2,8 @@
 use borrow.Author.Needs.{needs}
 use mathlib.Core.Path.{ap}
 use Rattle.report.specs.Calls.{Reported}
-use Rattle.planner.proofs.danivomel_report.Statement.{statement}
-use Rattle.planner.proofs.danivomel_report.Tie as tie
+use Rattle.planner.proofs.texts.danivomel_report.Statement.{statement}
+use Rattle.planner.proofs.texts.danivomel_report.Tie as tie
 
 report-requires : tie.Need-report-requires
 report-requires c κs = search needs

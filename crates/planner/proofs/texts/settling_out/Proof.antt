@@ -1,7 +1,7 @@
 -- A settling crosses as its definition says. Assumes nothing.
 use borrow.Author.Needs.{needs}
-use Rattle.planner.proofs.settling_out.Statement.{statement}
-use Rattle.planner.proofs.settling_out.Tie as tie
+use Rattle.planner.proofs.texts.settling_out.Statement.{statement}
+use Rattle.planner.proofs.texts.settling_out.Tie as tie
 
 enum-known-answer : tie.Need-enum-known-answer
 enum-known-answer c = search needs

@@ -1,7 +1,7 @@
 -- A report's answer crosses as its definition says. Assumes nothing.
 use borrow.Author.Needs.{needs}
-use Rattle.planner.proofs.reporting_out.Statement.{statement}
-use Rattle.planner.proofs.reporting_out.Tie as tie
+use Rattle.planner.proofs.texts.reporting_out.Statement.{statement}
+use Rattle.planner.proofs.texts.reporting_out.Tie as tie
 
 enum-known-answer : tie.Need-enum-known-answer
 enum-known-answer c = search needs

@@ -1,0 +1,138 @@
+// The calls on a job text, for C and Rust.
+use crate::ForeignRead;
+use crate::ForeignRefusal;
+use crate::ForeignReport;
+use crate::ForeignSettled;
+use crate::refusal_out;
+use job::Reading;
+use report::Reporting;
+use works::Settling;
+ghost use mathlib.Core.Path.{_≡_};
+ghost use lib.ListN.{length};
+ghost use Rattle.job.specs.Reading.{readingOf, readTable, lowsAfter, highsAfter};
+ghost use Rattle.works.specs.Calls.{settleText};
+ghost use Rattle.report.specs.Calls.{reportText};
+ghost use Rattle.planner.specs.Foreign.{foreignRead, foreignSettled, foreignReport};
+
+// A reading as it crosses.
+fn reading_out(answer: Reading) -> ForeignRead
+    ensures { λ r. ⌜ r ≡ foreignRead answer ⌝ }
+{
+    match answer {
+        Reading::Read { units, groups } => ForeignRead {
+            refusal: ForeignRefusal {
+                number: 0,
+                place: 0,
+            },
+            units,
+            groups,
+        },
+        Reading::Refused(refusal) => ForeignRead {
+            refusal: refusal_out(refusal),
+            units: 0,
+            groups: 0,
+        },
+    }
+}
+
+// Reads a job text into a table, as job::read does.
+#[no_mangle]
+pub extern "C" fn danivomel_read(text: &[u8], lows: &mut [u64], highs: &mut [u64]) -> ForeignRead
+    ensures { λ r. ⌜ r ≡ foreignRead (readingOf (readTable (now (text .entry)) (length (now (lows .entry))) (length (now (highs .entry))))) ⌝ }
+    ensures { λ _. ⌜ now (lows .exit) ≡ lowsAfter (readTable (now (text .entry)) (length (now (lows .entry))) (length (now (highs .entry)))) (now (lows .entry)) ⌝ }
+    ensures { λ _. ⌜ now (highs .exit) ≡ highsAfter (readTable (now (text .entry)) (length (now (lows .entry))) (length (now (highs .entry)))) (now (highs .entry)) ⌝ }
+{
+    let answer = job::read(text, lows, highs);
+    reading_out(answer)
+}
+
+// A settling as it crosses.
+fn settling_out(answer: Settling) -> ForeignSettled
+    ensures { λ r. ⌜ r ≡ foreignSettled answer ⌝ }
+{
+    match answer {
+        Settling::Settled(passes) => ForeignSettled {
+            refusal: ForeignRefusal {
+                number: 0,
+                place: 0,
+            },
+            passes,
+        },
+        Settling::NoPlan {
+            number,
+            place,
+            passes,
+        } => ForeignSettled {
+            refusal: ForeignRefusal { number, place },
+            passes,
+        },
+        Settling::Refused(refusal) => ForeignSettled {
+            refusal: refusal_out(refusal),
+            passes: 0,
+        },
+    }
+}
+
+// Settles a job text over a table, as works::settle does.
+#[no_mangle]
+pub extern "C" fn danivomel_settle(
+    text: &[u8],
+    lows: &mut [u64],
+    highs: &mut [u64],
+    scratch: &mut [u64],
+) -> ForeignSettled
+    ensures { λ r. ⌜ r ≡ foreignSettled (settleText (now (text .entry)) (now (lows .entry)) (now (highs .entry)) (length (now (scratch .entry))) .answer) ⌝ }
+    ensures { λ _. ⌜ now (lows .exit) ≡ settleText (now (text .entry)) (now (lows .entry)) (now (highs .entry)) (length (now (scratch .entry))) .lows ⌝ }
+    ensures { λ _. ⌜ now (highs .exit) ≡ settleText (now (text .entry)) (now (lows .entry)) (now (highs .entry)) (length (now (scratch .entry))) .highs ⌝ }
+{
+    let answer = works::calls::settle(text, lows, highs, scratch);
+    settling_out(answer)
+}
+
+// A report's answer as it crosses.
+fn reporting_out(answer: Reporting) -> ForeignReport
+    ensures { λ r. ⌜ r ≡ foreignReport answer ⌝ }
+{
+    match answer {
+        Reporting::Written(length) => ForeignReport {
+            refusal: ForeignRefusal {
+                number: 0,
+                place: 0,
+            },
+            passes: 0,
+            length,
+        },
+        Reporting::NoPlan {
+            number,
+            place,
+            passes,
+        } => ForeignReport {
+            refusal: ForeignRefusal { number, place },
+            passes,
+            length: 0,
+        },
+        Reporting::Refused(refusal) => ForeignReport {
+            refusal: refusal_out(refusal),
+            passes: 0,
+            length: 0,
+        },
+    }
+}
+
+// Settles a job text over a table and writes its report, as report::report does.
+#[no_mangle]
+pub extern "C" fn danivomel_report(
+    text: &[u8],
+    lows: &mut [u64],
+    highs: &mut [u64],
+    scratch: &mut [u64],
+    buffer: &mut [u8],
+) -> ForeignReport
+    ensures { λ r. ⌜ r ≡ foreignReport (reportText (now (text .entry)) (now (lows .entry)) (now (highs .entry)) (length (now (scratch .entry))) (now (buffer .entry)) .answer) ⌝ }
+    ensures { λ _. ⌜ now (lows .exit) ≡ reportText (now (text .entry)) (now (lows .entry)) (now (highs .entry)) (length (now (scratch .entry))) (now (buffer .entry)) .lows ⌝ }
+    ensures { λ _. ⌜ now (highs .exit) ≡ reportText (now (text .entry)) (now (lows .entry)) (now (highs .entry)) (length (now (scratch .entry))) (now (buffer .entry)) .highs ⌝ }
+    ensures { λ _. ⌜ now (buffer .exit) ≡ reportText (now (text .entry)) (now (lows .entry)) (now (highs .entry)) (length (now (scratch .entry))) (now (buffer .entry)) .buffer ⌝ }
+{
+    let answer = report::calls::report(text, lows, highs, scratch, buffer);
+    reporting_out(answer)
+}
