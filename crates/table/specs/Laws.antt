@@ -82,7 +82,7 @@ over-fields (suc n) (l ∷ ls) (h ∷ hs) ks js (r ∷ t) p q le =
     (ap (λ (zs : List ℕ). l ∷ zs) (rest .0), ap (λ (zs : List ℕ). h ∷ zs) (rest .1))
 
 -- lists that fill an array together with what it held past them are as long as the bounds say
-front-length : (f : Range → ℕ) (t : List Range) (ls : List ℕ)
+pub front-length : (f : Range → ℕ) (t : List Range) (ls : List ℕ)
     → length (ls ++ drop (min (length t) 256) (over (min (length t) 256) (map f t) zeros)) ≡ 256 → length ls ≡ min (length t) 256
 front-length f t ls whole =
     let n : ℕ = min (length t) 256 in

@@ -5,9 +5,11 @@ use lib.ListN.{length, take, drop, replicate}
 use Rattle.table.specs.declared.Range.{Range}
 use Rattle.table.specs.declared.Bounds.{Bounds}
 use Rattle.table.specs.declared.SettledBounds.{SettledBounds}
+use Rattle.table.specs.declared.ReportedBounds.{ReportedBounds}
 use Rattle.table.specs.declared.ReadBounds.{ReadBounds}
 use Rattle.job.specs.Job.{Outcome}
 use Rattle.job.specs.Reading.{readingOf, readTable, lowsAfter, highsAfter}
+use Rattle.report.specs.Calls.{Reported, reportText}
 use Rattle.works.specs.Calls.{Settlement, settleText}
 
 -- the lows of a table
@@ -51,6 +53,19 @@ afterSettling text c scratch =
       bounds = record { lows = s .lows ++ drop (c .count) (c .lows); highs = s .highs ++ drop (c .count) (c .highs); count = c .count };
       answer = s .answer;
     }
+
+-- what reporting a text over bounds hands back, with a scratch of so many numbers
+abbrev pub afterReporting : List ℕ → Bounds → ℕ → List ℕ → ReportedBounds
+afterReporting text c scratch buffer =
+    let s : Reported = reportText text (take (c .count) (c .lows)) (take (c .count) (c .highs)) scratch buffer in
+    record {
+      bounds = record { lows = s .lows ++ drop (c .count) (c .lows); highs = s .highs ++ drop (c .count) (c .highs); count = c .count };
+      answer = s .answer;
+    }
+
+-- and the buffer after it
+abbrev pub bufferAfter : List ℕ → Bounds → ℕ → List ℕ → List ℕ
+bufferAfter text c scratch buffer = reportText text (take (c .count) (c .lows)) (take (c .count) (c .highs)) scratch buffer .buffer
 
 -- what reading a text into bounds hands back
 abbrev pub afterReading : List ℕ → Bounds → ReadBounds

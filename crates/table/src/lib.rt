@@ -1,13 +1,15 @@
-// Reading a job text into a table of ranges, and settling it over one: thin functions above those on two lists of numbers.
+// Reading a job text into a table of ranges, settling and reporting over one: thin functions above those on two lists of numbers.
 // A function that holds a table or a reader is proved by a walk of its MIR, by hand.
 use job::Reading;
+use report::Reporting;
 use works::Settling;
 ghost use mathlib.Core.Path.{_≡_};
 ghost use Prim.Native.Nat.{_≤_, min};
 ghost use lib.ListN.{length, drop};
 ghost use Rattle.job.specs.Reading.{Filled};
+ghost use Rattle.report.specs.Calls.{reported, reportText};
 ghost use Rattle.works.specs.Calls.{settlement, settleText};
-ghost use Rattle.table.specs.Tables.{lowsOf, highsOf, boundsOf, over, ranges, afterSettling, afterReading};
+ghost use Rattle.table.specs.Tables.{lowsOf, highsOf, boundsOf, over, ranges, afterSettling, afterReporting, bufferAfter, afterReading};
 
 // The range of a unit.
 pub struct Range {
@@ -97,6 +99,49 @@ pub fn settle(text: &[u8], table: &mut [Range], scratch: &mut [u64]) -> Settling
     let settled = settle_bounds(text, before, scratch);
     put_bounds(table, settled.bounds);
     settled.answer
+}
+
+// What reporting over bounds hands back: the bounds after it, and its answer.
+struct ReportedBounds {
+    bounds: Bounds,
+    answer: Reporting,
+}
+
+// Settles a job text over bounds and writes the report at the start of the buffer.
+fn report_bounds(
+    text: &[u8],
+    bounds: Bounds,
+    scratch: &mut [u64],
+    buffer: &mut [u8],
+) -> ReportedBounds
+    requires { ⌜ bounds .count ≤ 256 ⌝ }
+    ensures { λ r. ⌜ (r ≡ afterReporting (now (text .entry)) bounds (length (now (scratch .entry))) (now (buffer .entry))) × (now (buffer .exit) ≡ bufferAfter (now (text .entry)) bounds (length (now (scratch .entry))) (now (buffer .entry))) ⌝ }
+{
+    let mut lows = bounds.lows;
+    let mut highs = bounds.highs;
+    let count = bounds.count;
+    let answer = report::calls::report(
+        text,
+        &mut lows[..count],
+        &mut highs[..count],
+        scratch,
+        buffer,
+    );
+    let after = Bounds { lows, highs, count };
+    ReportedBounds {
+        bounds: after,
+        answer,
+    }
+}
+
+// Settles a job text over a table and writes its report, as report::calls::report does over its lows and highs.
+pub fn report(text: &[u8], table: &mut [Range], scratch: &mut [u64], buffer: &mut [u8]) -> Reporting
+    ensures { λ r. ⌜ reported r (lowsOf (now (table .exit))) (highsOf (now (table .exit))) (now (buffer .exit)) ≡ reportText (now (text .entry)) (lowsOf (now (table .entry))) (highsOf (now (table .entry))) (length (now (scratch .entry))) (now (buffer .entry)) ⌝ }
+{
+    let before = take_bounds(table);
+    let done = report_bounds(text, before, scratch, buffer);
+    put_bounds(table, done.bounds);
+    done.answer
 }
 
 // The job text, with the spot that reading has reached.
