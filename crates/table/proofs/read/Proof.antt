@@ -19,8 +19,8 @@ use contract.Monad.{Fun, fact}
 use contract.Running.{givenOf, tables, tablesOf}
 use sound.WpLaws.{FmC, fmOf}
 use types.Kit.{Given, ‵, raw, some, later, _⊛_, ⋆, _$_, _∵_, !, qed, by, move, keep, use1, use2, split, join, pick, rewrite, fsplit, fjoin, suffices, frame, await, done}
-use types.Run.{look, init, forget, stop, hop, fld, from, load, addr, of-opd, and-then, no-more, assigns, land, returns, enter, alloc1, alloc0, params1, pass1, pass0}
-use types.Part.{agg, whole, sub, look-in}
+use types.Run.{look, init, forget, stop, fld, from, load, of-opd, and-then, no-more, assigns, land, returns, enter, alloc1, alloc0, params1, pass1, pass0}
+use types.Part.{whole, sub, look-in}
 use denote.RattleType.{RattleType, owns}
 use denote.Laws.{Is, shows}
 use denote.Enum.Laws as EL
@@ -41,12 +41,12 @@ use denote.Exit.{yes}
 use Rattle.table.specs.declared.Range.{Range}
 use Rattle.table.specs.declared.ReadBounds.{ReadBounds}
 use Rattle.table.specs.declared.Reader.{Reader}
-use Rattle.table.specs.Tables.{lowsOf, highsOf, over, ranges, boundsOf, afterReading}
+use Rattle.table.specs.Tables.{lowsOf, highsOf, ranges, boundsOf, afterReading}
 use Rattle.table.specs.Laws.{over-length}
 use Rattle.table.specs.Fronts.{putBack, read-table}
 use Rattle.job.specs.Reading.{Filled}
 use Rattle.table.proofs.Closing.{proved}
-use Rattle.table.proofs.Lending.{sliceAt}
+use Rattle.table.proofs.Lending.{sliceAt, passes-on}
 use Rattle.table.proofs.Thin.{Take, Put, takes, puts}
 use Rattle.table.proofs.Walks.{releases, lows-length, highs-length}
 use Rattle.table.proofs.Range as Range-of
@@ -182,8 +182,7 @@ module _ {M : Type 1} (𝓤 : URA M) (H : Heap 𝓤) (A : Atoms 𝓤) (W : Given
         split ! $ move ! (1 ∷ []) $ rewrite ! 0 (λ (h : Reader). ‵ (Rd κ₀ .own h (u ∷ []))) (λ i. record { text = e₀ .0 i; at = e₀ .1 i }) refl $ peeks ! (Rd κ₀) (Is (Rd κ₀)) (shows 𝓤 H A (Rd κ₀)) d (u ∷ []) (λ ds.
         land ! (from ! (stop !)) (init ! 23 refl (LL.lawful (T.the-type αᵉ) (T′.the-laws αᵉ) 𝓤 H A W .typed d _ ds .0)) $
         -- the table is lent to `take_bounds`
-        assigns ! (addr ! (from ! (fld ! refl (hop ! (look-in ! 25 (sub ! 0 refl (whole !))) (stop !))))) (from ! (stop !)) (init ! 17 refl (tt, tt)) $
-        assigns ! (agg ! (and-then ! (load ! (from ! (stop !)) (look ! 17 refl)) (and-then ! (load ! (from ! (fld ! refl (stop !))) (look-in ! 25 (sub ! 1 refl (whole !)))) (no-more !)))) (from ! (stop !)) (init ! 15 refl (tt, (tt, (record { fits = room .0 }, tt)))) $
+        passes-on ! 25 17 15 refl refl refl refl refl refl refl refl (room .0) $
         move ! (5 ∷ 3 ∷ []) $ takes ! fm mem run known-take (named 1) κ q γ b o ys room (λ i j. and-then ! (load ! (from ! (stop !)) (look ! 15 refl)) (no-more !)) (λ w is.
         land ! (from ! (stop !)) (init ! 21 refl (LL.lawful B.the-type B′.the-laws 𝓤 H A W .typed (boundsOf ys) _ is .0)) $
         -- the reader is passed on
@@ -196,8 +195,7 @@ module _ {M : Type 1} (𝓤 : URA M) (H : Heap 𝓤) (A : Atoms 𝓤) (W : Given
         land ! (from ! (stop !)) (init ! 18 refl (LL.lawful D.the-type D′.the-laws 𝓤 H A W .typed r _ js .0)) $
         rewrite ! 18 (λ (v : Val). ‵ (fat fullShare D′.mir l₅ 0 v)) (ap only (LL.tells D.the-type D′.the-laws r _ js)) refl $
         -- the table is given up to `put_bounds`
-        assigns ! (addr ! (from ! (fld ! refl (hop ! (look-in ! 24 (sub ! 0 refl (whole !))) (stop !))))) (from ! (stop !)) (init ! 8 refl (tt, tt)) $
-        assigns ! (agg ! (and-then ! (load ! (from ! (stop !)) (look ! 8 refl)) (and-then ! (load ! (from ! (fld ! refl (stop !))) (look-in ! 24 (sub ! 1 refl (whole !)))) (no-more !)))) (from ! (stop !)) (init ! 6 refl (tt, (tt, (record { fits = room .0 }, tt)))) $
+        passes-on ! 24 8 6 refl refl refl refl refl refl refl refl (room .0) $
         move ! (1 ∷ 2 ∷ []) $
         puts ! fm mem run known-put (named 1) κ q γ b o ys (r .bounds) (LL.val B.the-type B′.the-laws (r .bounds)) (bounds-of r js) (subst (λ (y : ReadBounds). y .bounds .count ≤ min (length ys) 256) (sym e) (omega arith))
         (λ i. and-then ! (load ! (from ! (stop !)) (look ! 5 refl)) (and-then ! (load ! (from ! (fld ! refl (stop !))) (look-in ! 17 (sub ! 0 refl (whole !)))) (no-more !))) (λ y typed.

@@ -19,8 +19,8 @@ use contract.Monad.{Fun, fact}
 use contract.Running.{givenOf, tables, tablesOf}
 use sound.WpLaws.{FmC, fmOf}
 use types.Kit.{Given, ‵, raw, some, later, _⊛_, ⋆, _$_, _∵_, !, qed, by, move, keep, drop, group, use1, split, split3, join, pick, rewrite, fsplit, fjoin, feqL, suffices, frame, await, done}
-use types.Run.{look, init, forget, stop, hop, fld, from, load, addr, of-opd, and-then, no-more, assigns, land, returns, enter, alloc1, alloc0, params1, pass1, pass0}
-use types.Part.{agg, whole, sub, look-in}
+use types.Run.{look, init, forget, stop, fld, from, load, of-opd, and-then, no-more, assigns, land, returns, enter, alloc1, alloc0, params1, pass1, pass0}
+use types.Part.{whole, sub, look-in}
 use denote.RattleType.{owns}
 use denote.Laws.{Is, shows}
 use denote.Enum.Laws as EL
@@ -40,12 +40,12 @@ use denote.Triple.Walked.{says, Stays, stay-none-slice, gave-slice, walkOf, AllG
 use denote.Exit.{yes}
 use Rattle.table.specs.declared.Range.{Range}
 use Rattle.table.specs.declared.ReportedBounds.{ReportedBounds}
-use Rattle.table.specs.Tables.{lowsOf, highsOf, over, ranges, boundsOf, afterReporting, bufferAfter}
+use Rattle.table.specs.Tables.{lowsOf, highsOf, ranges, boundsOf, afterReporting, bufferAfter}
 use Rattle.table.specs.Laws.{over-length}
 use Rattle.table.specs.Fronts.{putBack, reported-table}
 use Rattle.report.specs.Calls.{reported}
 use Rattle.table.proofs.Closing.{proved}
-use Rattle.table.proofs.Lending.{sliceAt}
+use Rattle.table.proofs.Lending.{sliceAt, passes-on}
 use Rattle.table.proofs.Thin.{Take, Put, takes, puts}
 use Rattle.table.proofs.Walks.{releases, lows-length, highs-length}
 use Rattle.table.proofs.Range as T
@@ -148,16 +148,13 @@ module _ {M : Type 1} (𝓤 : URA M) (H : Heap 𝓤) (A : Atoms 𝓤) (W : Given
         alloc1 ! (λ l₀. alloc1 ! (λ l₁. alloc1 ! (λ l₂. alloc1 ! (λ l₃. alloc1 ! (λ l₄. alloc1 ! (λ l₅. alloc1 ! (λ l₆. alloc1 ! (λ l₇. alloc1 ! (λ l₈. alloc1 ! (λ l₉. alloc1 ! (λ l₁₀. alloc1 ! (λ l₁₁. alloc1 ! (λ l₁₂. alloc1 ! (λ l₁₃. alloc1 ! (λ l₁₄. alloc1 ! (λ l₁₅. alloc0 ! $
         params1 ! $ pass1 ! (init ! 28 refl (tt, (tt, (record { fits = room₀ .0 }, tt)))) $ pass1 ! (init ! 26 refl (tt, (tt, (record { fits = room .0 }, tt)))) $ pass1 ! (init ! 24 refl (tt, (tt, (record { fits = room₂ .0 }, tt)))) $ pass1 ! (init ! 22 refl (tt, (tt, (record { fits = room₃ .0 }, tt)))) $ pass0 ! $
         -- the table is lent to `take_bounds`
-        assigns ! (addr ! (from ! (fld ! refl (hop ! (look-in ! 26 (sub ! 0 refl (whole !))) (stop !))))) (from ! (stop !)) (init ! 16 refl (tt, tt)) $
-        assigns ! (agg ! (and-then ! (load ! (from ! (stop !)) (look ! 16 refl)) (and-then ! (load ! (from ! (fld ! refl (stop !))) (look-in ! 26 (sub ! 1 refl (whole !)))) (no-more !)))) (from ! (stop !)) (init ! 14 refl (tt, (tt, (record { fits = room .0 }, tt)))) $
+        passes-on ! 26 16 14 refl refl refl refl refl refl refl refl (room .0) $
         move ! (33 ∷ []) $ fsplit ! $ move ! (1 ∷ []) $ fsplit ! $ move ! (1 ∷ []) $ fsplit ! $ move ! (1 ∷ []) $ fsplit ! $ move ! (37 ∷ []) $ split3 ! $ move ! (2 ∷ []) $ split3 ! $ move ! (8 ∷ 4 ∷ []) $
         takes ! fm mem run known-take (named 1) κ q γ b o ys room (λ i j. and-then ! (load ! (from ! (stop !)) (look ! 24 refl)) (no-more !)) (λ w is.
         land ! (from ! (stop !)) (init ! 30 refl (LL.lawful B.the-type B′.the-laws 𝓤 H A W .typed (boundsOf ys) _ is .0)) $
         -- text, bounds, scratch and buffer go to `report_bounds`
-        assigns ! (addr ! (from ! (fld ! refl (hop ! (look-in ! 34 (sub ! 0 refl (whole !))) (stop !))))) (from ! (stop !)) (init ! 22 refl (tt, tt)) $
-        assigns ! (agg ! (and-then ! (load ! (from ! (stop !)) (look ! 22 refl)) (and-then ! (load ! (from ! (fld ! refl (stop !))) (look-in ! 34 (sub ! 1 refl (whole !)))) (no-more !)))) (from ! (stop !)) (init ! 20 refl (tt, (tt, (record { fits = room₂ .0 }, tt)))) $
-        assigns ! (addr ! (from ! (fld ! refl (hop ! (look-in ! 32 (sub ! 0 refl (whole !))) (stop !))))) (from ! (stop !)) (init ! 18 refl (tt, tt)) $
-        assigns ! (agg ! (and-then ! (load ! (from ! (stop !)) (look ! 18 refl)) (and-then ! (load ! (from ! (fld ! refl (stop !))) (look-in ! 32 (sub ! 1 refl (whole !)))) (no-more !)))) (from ! (stop !)) (init ! 16 refl (tt, (tt, (record { fits = room₃ .0 }, tt)))) $
+        passes-on ! 34 22 20 refl refl refl refl refl refl refl refl (room₂ .0) $
+        passes-on ! 32 18 16 refl refl refl refl refl refl refl refl (room₃ .0) $
         move ! (9 ∷ []) $ use1 W (‵ (ShrSlice (named 0) κ₀ u8 .own (a .0) (s₀ ∷ [])) ⊛ ‵ (ShrSlice (named 0) κ₀ u8 .own (a .0) (s₀ ∷ []))) (shr-slice-copy 𝓤 H A W (named 0) κ₀ u8 .twice (a .0) (s₀ ∷ [])) $ split ! $
         move ! (7 ∷ 4 ∷ 5 ∷ 0 ∷ 10 ∷ 8 ∷ []) $ group ! 6 $ use1 W (raw (On 𝓤 H A mem run .pre (to-report w))) (goes-report w is) $
         calls-at ! fm (On 𝓤 H A mem run) known-report (to-report w) (and-then ! (load ! (from ! (stop !)) (look ! 34 refl)) (and-then ! (load ! (from ! (stop !)) (look ! 26 refl)) (and-then ! (load ! (from ! (stop !)) (look ! 16 refl)) (and-then ! (load ! (from ! (stop !)) (look ! 12 refl)) (no-more !))))) (λ u.
@@ -167,8 +164,7 @@ module _ {M : Type 1} (𝓤 : URA M) (H : Heap 𝓤) (A : Atoms 𝓤) (W : Given
         land ! (from ! (stop !)) (init ! 27 refl (LL.lawful D.the-type D′.the-laws 𝓤 H A W .typed r _ js .0)) $
         rewrite ! 27 (λ (z : Val). ‵ (fat fullShare D′.mir l₆ 0 z)) (ap only (LL.tells D.the-type D′.the-laws r _ js)) refl $
         -- the table is given up to `put_bounds`
-        assigns ! (addr ! (from ! (fld ! refl (hop ! (look-in ! 35 (sub ! 0 refl (whole !))) (stop !))))) (from ! (stop !)) (init ! 11 refl (tt, tt)) $
-        assigns ! (agg ! (and-then ! (load ! (from ! (stop !)) (look ! 11 refl)) (and-then ! (load ! (from ! (fld ! refl (stop !))) (look-in ! 35 (sub ! 1 refl (whole !)))) (no-more !)))) (from ! (stop !)) (init ! 9 refl (tt, (tt, (record { fits = room .0 }, tt)))) $
+        passes-on ! 35 11 9 refl refl refl refl refl refl refl refl (room .0) $
         move ! (5 ∷ 6 ∷ []) $
         puts ! fm mem run known-put (named 1) κ q γ b o ys (r .bounds) (LL.val B.the-type B′.the-laws (r .bounds)) (bounds-of r js) (subst (λ (z : ReportedBounds). z .bounds .count ≤ min (length ys) 256) (sym (e .0)) (omega arith))
         (λ i. and-then ! (load ! (from ! (stop !)) (look ! 8 refl)) (and-then ! (load ! (from ! (fld ! refl (stop !))) (look-in ! 26 (sub ! 0 refl (whole !)))) (no-more !))) (λ z typed.
