@@ -127,9 +127,9 @@ fn report_bounds(
         scratch,
         buffer,
     );
-    let after = Bounds { lows, highs, count };
+    let left = Bounds { lows, highs, count };
     ReportedBounds {
-        bounds: after,
+        bounds: left,
         answer,
     }
 }
