@@ -9,16 +9,20 @@ use Rattle.table.proofs.report_bounds.Statement.{statement}
 use Rattle.table.proofs.report_bounds.Tie as tie
 
 array-borrow-prefix-lows : tie.Need-array-borrow-prefix-lows
-array-borrow-prefix-lows c = omega (arith, lows-length (c .before .before .before .before .before .args .bounds) (c .before .before .before .before .before .good .1 .0), c .before .before .before .before .before .pre)
+array-borrow-prefix-lows c =
+    let s = c .before .before .before .before .before in omega (arith, lows-length (s .args .bounds) (s .good .1 .0), s .pre)
 
 slice-aggregate-report : tie.Need-slice-aggregate-report
-slice-aggregate-report c = rw length-take (omega (arith, lows-length (c .before .before .before .before .before .before .args .bounds) (c .before .before .before .before .before .before .good .1 .0), c .before .before .before .before .before .before .pre))
+slice-aggregate-report c =
+    let s = c .before .before .before .before .before .before in rw length-take (omega (arith, lows-length (s .args .bounds) (s .good .1 .0), s .pre))
 
 array-borrow-prefix-highs : tie.Need-array-borrow-prefix-highs
-array-borrow-prefix-highs c = omega (arith, highs-length (c .before .before .before .before .before .before .args .bounds) (c .before .before .before .before .before .before .good .1 .0), c .before .before .before .before .before .before .pre)
+array-borrow-prefix-highs c =
+    let s = c .before .before .before .before .before .before in omega (arith, highs-length (s .args .bounds) (s .good .1 .0), s .pre)
 
 slice-aggregate-report-2 : tie.Need-slice-aggregate-report-2
-slice-aggregate-report-2 c = rw length-take (omega (arith, highs-length (c .before .before .before .before .before .before .before .args .bounds) (c .before .before .before .before .before .before .before .good .1 .0), c .before .before .before .before .before .before .before .pre))
+slice-aggregate-report-2 c =
+    let s = c .before .before .before .before .before .before .before in rw length-take (omega (arith, highs-length (s .args .bounds) (s .good .1 .0), s .pre))
 
 report-requires : tie.Need-report-requires
 report-requires c κs = search needs
