@@ -12,6 +12,7 @@ use steps::take_line;
 use text::Spot;
 
 pub mod lines;
+pub mod reader;
 pub mod steps;
 
 // What reading answers: the counts of units and groups, or a refusal.
