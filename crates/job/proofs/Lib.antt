@@ -1,3 +1,4 @@
 pub mod Closing
 pub mod Lending
+pub mod Readers
 pub mod Releasing

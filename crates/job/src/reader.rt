@@ -6,6 +6,9 @@ ghost use lib.ListN.{length};
 ghost use lib.Dec.{leb};
 ghost use Rattle.job.specs.Job.{mostBytes, mostUnits, mostFlat};
 ghost use Rattle.job.specs.Steps.{Bounded, LineTaken};
+ghost use Rattle.job.specs.Reading.{Scanned, countsOf};
+use crate::Reading;
+use crate::refused;
 use crate::steps::Progress;
 use crate::steps::Taken;
 use crate::steps::take_line;
@@ -56,4 +59,43 @@ impl<'a> Reader<'a> {
             at: spot.at,
         }
     }
+}
+
+// What the lines of a text come to: the counts, or 10 where there is no unit line.
+fn counted(progress: Progress) -> Reading
+    ensures { λ r. ⌜ r ≡ countsOf progress ⌝ }
+{
+    let units = progress.units;
+    if units == 0 {
+        return refused(10);
+    }
+    Reading::Read {
+        units,
+        groups: progress.groups,
+    }
+}
+
+// Reads a text that is not too long, line by line.
+pub fn scan_lines(text: &[u8], lows: &mut [u64], highs: &mut [u64], flat: &mut [u64]) -> Reading
+    requires { ⌜ (length (now text) ≤ mostBytes) × (mostUnits ≤ length (now lows)) × (mostUnits ≤ length (now highs)) × (mostFlat ≤ length (now flat)) ⌝ }
+    ensures { λ r. ⌜ Scanned (now (text .entry)) (now (lows .entry)) (now (highs .entry)) (now (flat .entry)) (now (lows .exit)) (now (highs .exit)) (now (flat .exit)) r ⌝ }
+{
+    let mut reader = Reader::new(text);
+    let mut progress = Progress {
+        units: 0,
+        groups: 0,
+        memberships: 0,
+    };
+    while !reader.at_end() {
+        match reader.take_line(progress, lows, highs, flat) {
+            Taken::Line(more, next) => {
+                progress = more;
+                reader = reader.moved(next);
+            }
+            Taken::Refused(refusal) => {
+                return Reading::Refused(refusal);
+            }
+        }
+    }
+    counted(progress)
 }
