@@ -1,4 +1,3 @@
 pub mod Closing
 pub mod Lending
-pub mod Readers
 pub mod Releasing

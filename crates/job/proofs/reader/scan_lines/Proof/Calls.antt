@@ -1,5 +1,5 @@
--- The calls of the reader's methods in a walk, each as one step: what the caller has before it and after it, and the machine value that
--- the call hands back. All that is known of a method is that it meets its contract. Assumes `Given`.
+-- The calls that reading a text line by line makes, each as one step of a walk: what the caller has before it and after it, and the machine
+-- value that the call hands back. All that is known of a callee is that it meets its contract. Assumes `Given`.
 use mathlib.Core.Path.{_≡_, refl, sym, ap, subst}
 use Prim.Native.Nat.{ℕ, _≤_, _<_, _^_}
 use mathlib.Core.Bool.{Bool}
@@ -41,14 +41,18 @@ use Rattle.text.proofs.Spot as S
 use Rattle.text.proofs.Spot.Laws as S′
 use Rattle.job.specs.Job.{mostBytes, mostUnits, mostFlat}
 use Rattle.job.specs.Steps.{Bounded, LineTaken}
+use Rattle.job.specs.Reading.{countsOf}
 use Rattle.job.specs.declared.steps.Progress.{Progress}
 use Rattle.job.specs.declared.steps.Taken.{Taken}
+use Rattle.job.specs.declared.Reading.{Reading}
 use Rattle.job.specs.declared.reader.Reader.{Reader}
 use Rattle.job.proofs.Lending.{sliceAt, lends, comes-back}
 use Rattle.job.proofs.steps.Progress as P
 use Rattle.job.proofs.steps.Progress.Laws as P′
 use Rattle.job.proofs.steps.Taken as D
 use Rattle.job.proofs.steps.Taken.Laws as D′
+use Rattle.job.proofs.Reading as G
+use Rattle.job.proofs.Reading.Laws as G′
 use Rattle.job.proofs.reader.Reader as T
 use Rattle.job.proofs.reader.Reader.Laws as T′
 use Rattle.job.proofs.reader.Reader.new as new
@@ -59,6 +63,8 @@ use Rattle.job.proofs.reader.Reader.take_line as take-line
 use Rattle.job.proofs.reader.Reader.take_line.Symbol.{name as #job·take-line}
 use Rattle.job.proofs.reader.Reader.moved as moved
 use Rattle.job.proofs.reader.Reader.moved.Symbol.{name as #job·moved}
+use Rattle.job.proofs.reader.counted as counted
+use Rattle.job.proofs.reader.counted.Symbol.{name as #job·counted}
 
 -- a reader of the text x at the spot n, its type at the lifetime κ, and its machine value
 abbrev pub readerAt : RefT (List ℕ) → ℕ → Reader
@@ -110,6 +116,9 @@ module _ {M : Type 1} (𝓤 : URA M) (H : Heap 𝓤) (A : Atoms 𝓤) (mem : Mem
 
   abbrev pub Moved : Contract 𝓤
   Moved = tripleOf 𝓤 H A moved.signature (moved.spec 𝓤 H A mem run)
+
+  abbrev pub Counted : Contract 𝓤
+  Counted = tripleOf 𝓤 H A counted.signature (counted.spec 𝓤 H A mem run)
 
 module _ {M : Type 1} (𝓤 : URA M) (H : Heap 𝓤) (A : Atoms 𝓤) (W : Given 𝓤 H A) (mem : Memory → SProp 𝓤) (run : Routine → Fun 𝓤) (κ : Lft) (q : Share) (x : RefT (List ℕ)) where
   abbrev Own : ℕ → Fml
@@ -179,6 +188,17 @@ module _ {M : Type 1} (𝓤 : URA M) (H : Heap 𝓤) (A : Atoms 𝓤) (W : Given
           qed W given ∵ says ! asked $ nothing ! $ move ! (4 ∷ 0 ∷ []) $ join ! $ move ! (3 ∷ 0 ∷ []) $ join ! $ move ! (2 ∷ 0 ∷ []) $ join ! $ move ! (1 ∷ 0 ∷ []) $ join ! $ frame ! $
           nothing ! $ move ! (4 ∷ 0 ∷ []) $ fjoin ! $ move ! (3 ∷ 0 ∷ []) $ fjoin ! $ move ! (2 ∷ 0 ∷ []) $ fjoin ! $ owned ! P.the-row (Is P.the-row) (LL.makes P.the-type P′.the-plain 𝓤 H A) p _ is $ fjoin ! $ move ! (1 ∷ 0 ∷ []) $ fjoin ! $ done !
 
+module _ {M : Type 1} (𝓤 : URA M) (H : Heap 𝓤) (A : Atoms 𝓤) (W : Given 𝓤 H A) (mem : Memory → SProp 𝓤) (run : Routine → Fun 𝓤) (p : Progress) where
+  -- the same of `counted`
+  abbrev to-counted : Counted 𝓤 H A mem run .Ghost
+  to-counted = ((tt, tt, tt, (p, tt), (LL.vals P.the-type P′.the-laws p, tt)), tt)
+
+  goes-counted : ent 𝓤 (sem 𝓤 H A (P.the-row .own p (LL.vals P.the-type P′.the-laws p))) (Counted 𝓤 H A mem run .pre to-counted)
+  goes-counted = qed W (‵ (P.the-row .own p (LL.vals P.the-type P′.the-laws p)) ∷ []) ∵ nothing ! $ move ! (1 ∷ 0 ∷ []) $ fjoin ! $ nothing ! $ join ! $ nothing ! $ move ! (1 ∷ 0 ∷ []) $ done !
+
+  counted-said : (r : Reading) → ent 𝓤 (ensured 𝓤 H A counted.ended (counted.clauses 𝓤 H A mem run) tt (p, tt) tt r) (fact 𝓤 (r ≡ countsOf p))
+  counted-said r = exE 𝓤 _ (λ ws. snd∗ 𝓤 (sem 𝓤 H A (lasts counted.ended tt (p, tt) ws)) (fact 𝓤 (r ≡ countsOf p)))
+
 -- the machine value of a reader that a call hands back
 reader-is : (κ : Lft) (d : Reader) (u : Val) → Is (Rd κ) d (u ∷ []) → T′.lowered d ≡ u
 reader-is κ d u is = ap only (sym (LL.tells (T.the-type (α κ)) (T′.the-laws (α κ)) d _ is))
@@ -213,6 +233,18 @@ module _ {M : Type 1} {𝓤 : URA M} {H : Heap 𝓤} {A : Atoms 𝓤} {K : Type 
       use1 W (‵ (Text κ x) ⊛ ‵ (Own 𝓤 H A W mem run κ q x n)) (reads 𝓤 H A W mem run κ q x n fits) $ split t $ move t (2 ∷ 1 ∷ []) $ use2 W (raw (End 𝓤 H A mem run .pre (to-end 𝓤 H A W mem run κ q x n))) (goes-end 𝓤 H A W mem run κ q x n) $
       calls-at t fm (End 𝓤 H A mem run) known (to-end 𝓤 H A W mem run κ q x n) (os _ _) (λ u.
       hears t κ q x bool (leb (length (now x)) n) (vbool (leb (length (now x)) n)) (ensured 𝓤 H A at-end.ended (at-end.clauses 𝓤 H A mem run) (κ, tt) (readerAt x n, tt) tt) (id⊢ 𝓤 _) (end-said 𝓤 H A W mem run κ q x n) (λ is. ap only (sym is)) (λ v. lands C Λ E d v rest Q) tt k))
+
+  -- `counted` is called
+  pub counts : K → FmC 𝓤 H (W .laws) C → (mem : Memory → SProp 𝓤) (run : Routine → Fun 𝓤) → Triple 𝓤 (C #job·counted) (Counted 𝓤 H A mem run) → (p : Progress) → Is P.the-row p (LL.vals P.the-type P′.the-laws p) → ((i : Item 𝓤) → Opds K W (i ∷ Γ) E xs (LL.vals P.the-type P′.the-laws p))
+      → (Is G.the-row (countsOf p) (EL.vals G.the-type G′.the-laws (countsOf p)) → Seq K W Γ (lands C Λ E d (EL.val G.the-type G′.the-laws (countsOf p)) rest Q)) → Seq K W Γ (runs C Λ E (seq (call #job·counted xs d) rest) Q)
+  counts t fm mem run known p is os k =
+      owned t P.the-row (Is P.the-row) (LL.makes P.the-type P′.the-plain 𝓤 H A) p _ is $ use1 W (raw (Counted 𝓤 H A mem run .pre (to-counted 𝓤 H A W mem run p))) (goes-counted 𝓤 H A W mem run p) $
+      calls-at t fm (Counted 𝓤 H A mem run) known (to-counted 𝓤 H A W mem run p) (os _) (λ u.
+      use1 W (later (some (λ (r : Reading). (‵ ftrue ⊛ ‵ (G.the-row .own r (u ∷ []))) ⊛ raw (ensured 𝓤 H A counted.ended (counted.clauses 𝓤 H A mem run) tt (p, tt) tt r)))) (id⊢ 𝓤 _) $ await t tt $ pick t (λ r.
+      split t $ move t (1 ∷ []) $ use1 W (raw (fact 𝓤 (r ≡ countsOf p))) (counted-said 𝓤 H A W mem run p r) $ heard t (r ≡ countsOf p) (λ e. split t $ drop t $ facts t G.the-row (Is G.the-row) (shows 𝓤 H A G.the-row) r (u ∷ []) (λ js.
+      let js′ : Is G.the-row (countsOf p) (u ∷ []) = subst (λ (h : Reading). Is G.the-row h (u ∷ [])) e js in
+      let v : u ∷ [] ≡ EL.vals G.the-type G′.the-laws (countsOf p) = EL.tells G.the-type G′.the-laws (countsOf p) _ js′ in
+      subst (λ (w : Val). Seq K W Γ (lands C Λ E d w rest Q)) (ap only (sym v)) (k (subst (Is G.the-row (countsOf p)) v js′))))))
 
   -- `take_line` is called, with the lists lent to it: they come back as it left them
   pub takes-line : K → FmC 𝓤 H (W .laws) C → (mem : Memory → SProp 𝓤) (run : Routine → Fun 𝓤) → Triple 𝓤 (C #job·take-line) (Line 𝓤 H A mem run) → (κ : Lft) (q : Share) (x : RefT (List ℕ)) (n : ℕ) → n < 2 ^ 64 → (p : Progress) (is : Is P.the-row p (LL.vals P.the-type P′.the-laws p))
