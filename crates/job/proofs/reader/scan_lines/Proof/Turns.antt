@@ -115,13 +115,13 @@ module _ {M : Type 1} (𝓤 : URA M) (H : Heap 𝓤) (A : Atoms 𝓤) (W : Given
   abbrev borrowed : Lft → Share → (r : RefT (List ℕ)) → Room u64 (length (now r)) → Borrowed
   borrowed κ q r room = record { lft = κ; share = q; name = r .name; block = r .ptr .0; offset = r .ptr .1; count = length (now r); room = room }
 
-  abbrev pub a : Borrowed
+  abbrev a : Borrowed
   a = borrowed (κs .1 .0) (qs .1 .0) x roomx
 
-  abbrev pub b : Borrowed
+  abbrev b : Borrowed
   b = borrowed (κs .1 .1 .0) (qs .1 .1 .0) y roomy
 
-  abbrev pub c : Borrowed
+  abbrev c : Borrowed
   c = borrowed (κs .1 .1 .1 .0) (qs .1 .1 .1 .0) z roomz
 
   abbrev pub at : List Val × (List Val × (List Val × (List Val × Unit {0})))
@@ -170,8 +170,7 @@ module _ {M : Type 1} (𝓤 : URA M) (H : Heap 𝓤) (A : Atoms 𝓤) (W : Given
       abbrev E : Env 𝓤 H
       E = (G′.mir, l₀) ∷ (textTy, l₁) ∷ (listTy 1, l₂) ∷ (listTy 2, l₃) ∷ (listTy 3, l₄) ∷ (rdTy, l₅) ∷ (P′.mir, l₆) ∷ (P′.mir, l₇) ∷ (S′.mir, l₈) ∷ (F′.mir, l₉) ∷ (tyBool, l₁₀) ∷ (rdTy, l₁₁) ∷ (tyBool, l₁₂) ∷ (D′.mir, l₁₃) ∷ (rdTy, l₁₄) ∷ (ptrTy, l₁₅) ∷ (lentTy, l₁₆) ∷ (ptrTy, l₁₇) ∷ (lentTy, l₁₈) ∷ (ptrTy, l₁₉) ∷ (lentTy, l₂₀) ∷ (rdTy, l₂₁) ∷ []
 
-      -- the reader at n, the progress p and the lists, with the result, the loop's test and the answer of `take_line` as given: every other
-      -- local is free
+      -- the reader at n, the progress p and the lists; the result, the test and `take_line`'s answer are as given, every other local is free, and local i stands at 8 + 2 · (21 − i)
       abbrev Cells : ℕ → Progress → List ℕ → List ℕ → List ℕ → Item 𝓤 → Item 𝓤 → Item 𝓤 → List (Item 𝓤)
       Cells n p ls hs fs i₀ i₁₂ i₁₃ = Ghosts ls hs fs ++
           (‵ (froom rdTy l₂₁ 0) ∷ ‵ (fdies rdTy l₂₁) ∷ ‵ (froom lentTy l₂₀ 0) ∷ ‵ (fdies lentTy l₂₀) ∷ ‵ (froom ptrTy l₁₉ 0) ∷ ‵ (fdies ptrTy l₁₉) ∷ ‵ (froom lentTy l₁₈ 0) ∷ ‵ (fdies lentTy l₁₈)
@@ -181,6 +180,7 @@ module _ {M : Type 1} (𝓤 : URA M) (H : Heap 𝓤) (A : Atoms 𝓤) (W : Given
           ∷ ‵ (fat fullShare rdTy l₅ 0 (machine x₀ n)) ∷ ‵ (fdies rdTy l₅) ∷ ‵ (fat fullShare (listTy 3) l₄ 0 (sliceIn c)) ∷ ‵ (fdies (listTy 3) l₄) ∷ ‵ (fat fullShare (listTy 2) l₃ 0 (sliceIn b)) ∷ ‵ (fdies (listTy 2) l₃) ∷ ‵ (fat fullShare (listTy 1) l₂ 0 (sliceIn a)) ∷ ‵ (fdies (listTy 1) l₂)
           ∷ ‵ (fat fullShare textTy l₁ 0 (sliceOf x₀)) ∷ ‵ (fdies textTy l₁) ∷ i₀ ∷ ‵ (fdies G′.mir l₀) ∷ [])
 
+      -- what stands before each turn, and after it
       abbrev I : X → List (Item 𝓤)
       I t = Cells (t .0 .at) (t .0 .progress) (t .0 .lows) (t .0 .highs) (t .0 .flat) (‵ (froom G′.mir l₀ 0)) (‵ (froom tyBool l₁₂ 0)) (‵ (froom D′.mir l₁₃ 0))
 
