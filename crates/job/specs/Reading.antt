@@ -5,7 +5,7 @@ use mathlib.Core.List.{List, [], _∷_, _++_}
 use mathlib.Core.Path.{_≡_, refl, ap}
 use native.Mathlib.Omega.{arith}
 use borrow.Author.Tests.{le-leb, lt-leb}
-use lib.Dec.{leb}
+use lib.Dec.{leb, eqb}
 use lib.ListN.{length, take, drop, length-append}
 use lib.Seq.{take-at}
 use Rattle.model.specs.Shares.{pick}
@@ -15,6 +15,7 @@ use Rattle.job.specs.Form.{Line, unit, group, printLine, line}
 use Rattle.job.specs.Spelling.{printed-line}
 use Rattle.job.specs.Job.{Job, next, stop, stepOn, verdict, judged, add, placeOf, Outcome, accepted, refused, refusal, onward, readLines, readJob}
 use Rattle.job.specs.Flat.{flatten}
+use Rattle.job.specs.declared.steps.Progress.{Progress}
 use Rattle.job.specs.declared.Reading.{Reading}
 use Rattle.job.specs.declared.Reading.the-variants.{Read, Refused}
 
@@ -22,6 +23,10 @@ use Rattle.job.specs.declared.Reading.the-variants.{Read, Refused}
 abbrev pub readingOf : Outcome → Reading
 readingOf (accepted job) = Read (length (job .lows)) (length (job .groups))
 readingOf (refused r) = Refused r
+
+-- the answer to a text whose lines are all taken: 01: "10 no unit line, place 0"
+unfoldable pub countsOf : Progress → Reading
+countsOf p = pick (eqb (p .units) 0) (Refused (refusal 10 0)) (Read (p .units) (p .groups))
 
 -- 01: then 1 for a table too short for the units
 unfoldable pub fitTable : ℕ → ℕ → Outcome → Outcome

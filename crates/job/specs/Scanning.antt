@@ -3,6 +3,7 @@ use Prim.Native.Nat.{ℕ, _≤_, _<_}
 use mathlib.Core.List.{List}
 use mathlib.Core.Path.{_≡_, refl, sym, ap, _∙_}
 use native.Mathlib.Omega.{arith}
+use native.Mathlib.Decide.{ℕ-discrete}
 use borrow.Author.Tests.{le-leb, lt-leb, eq-eqb, ne-eqb}
 use lib.ListN.{length, drop, length-drop, drop-of-length-le}
 use Rattle.model.specs.declared.Refusal.{Refusal}
@@ -12,7 +13,7 @@ use Rattle.job.specs.Flat.{flatten, length-flatten}
 use Rattle.job.specs.Steps.{lists, Holds, Answers}
 use Rattle.job.specs.declared.steps.Taken.the-variants as taken
 use Rattle.text.specs.declared.Spot.{Spot}
-use Rattle.job.specs.Reading.{Scanned, read-next, read-stop, read-end}
+use Rattle.job.specs.Reading.{Scanned, countsOf, read-next, read-stop, read-end}
 use Rattle.job.specs.declared.steps.Progress.{Progress}
 use Rattle.job.specs.declared.Reading.the-variants.{Read, Refused}
 
@@ -132,3 +133,27 @@ on-line {text} {at = at} g q spot h a ll hl fl =
 -- a line refused
 pub off-line : {text lows₀ highs₀ flat₀ lows highs flat : List ℕ} {at : ℕ} {p : Progress} (g : Going text lows₀ highs₀ flat₀ lows highs flat at p) (r : Refusal) → at < length text → stepOn (g .job) (line (drop at text)) ≡ stop r → readLines (length text) noLines text ≡ refused r
 off-line {text} {at = at} g r h a = sym (g .same) ∙ read-stop (g .lines) (g .job) (drop at text) r (left text at h) (g .enough) a
+
+module _ {text lows₀ highs₀ flat₀ lows highs flat : List ℕ} {at : ℕ} {p : Progress} (short : length text ≤ mostBytes) (g : Going text lows₀ highs₀ flat₀ lows highs flat at p) where
+  -- the lines are done, and the counts are the answer
+  pub scanned-counts : length text ≤ at → Scanned text lows₀ highs₀ flat₀ lows highs flat (countsOf p)
+  unfolding countsOf
+  scanned-counts h =
+      let all = done text at (g .job) (g .lines) h (g .same) in
+      elim (ℕ-discrete (p .units) 0) [
+        | yes z ↦ rw (eq-eqb (p .units) 0 z) (scanned-refused _ _ _ _ _ _ _ _ (no-unit _ short (g .job) all (g .holds .units ∙ z)))
+        | no n ↦ rw (ne-eqb (p .units) 0 n) (scanned-accepted _ _ _ _ _ _ _ (g .job) p (some-unit _ short (g .job) all (λ z. n (sym (g .holds .units) ∙ z))) (g .holds))
+      ]
+
+  -- a line is refused, and its refusal is the answer, whatever the lists hold
+  pub scanned-stop : (lows′ highs′ flat′ : List ℕ) (r : Refusal) → at < length text → stepOn (g .job) (line (drop at text)) ≡ stop r → Scanned text lows₀ highs₀ flat₀ lows′ highs′ flat′ (Refused r)
+  scanned-stop lows′ highs′ flat′ r h a = scanned-refused _ _ _ _ _ _ _ r (line-refused _ short r (off-line g r h a))
+
+-- a moment of the reading: the spot before a line, and what was read up to it
+pub record Moment (text lows₀ highs₀ flat₀ : List ℕ) : Type 0 where
+  pub at : ℕ
+  pub progress : Progress
+  pub lows : List ℕ
+  pub highs : List ℕ
+  pub flat : List ℕ
+  pub going : Going text lows₀ highs₀ flat₀ lows highs flat at progress

@@ -6,12 +6,10 @@ ghost use lib.ListN.{length, take, drop};
 ghost use Rattle.job.specs.Job.{mostUnits, mostFlat};
 ghost use Rattle.job.specs.Reading.{Scanned, Filled};
 use model::Refusal;
-use steps::Progress;
-use steps::Taken;
-use steps::take_line;
-use text::Spot;
+use reader::scan_lines;
 
 pub mod lines;
+pub mod reader;
 pub mod steps;
 
 // What reading answers: the counts of units and groups, or a refusal.
@@ -37,33 +35,7 @@ pub fn scan(text: &[u8], lows: &mut [u64], highs: &mut [u64], flat: &mut [u64]) 
     if MOST_BYTES < text.len() {
         return refused(2);
     }
-    let mut at = 0;
-    let mut progress = Progress {
-        units: 0,
-        groups: 0,
-        memberships: 0,
-    };
-    while at < text.len() {
-        let spot = Spot { at };
-        let taken = take_line(text, spot, progress, lows, highs, flat);
-        match taken {
-            Taken::Line(more, next) => {
-                progress = more;
-                at = next.at;
-            }
-            Taken::Refused(refusal) => {
-                return Reading::Refused(refusal);
-            }
-        }
-    }
-    let units = progress.units;
-    if units == 0 {
-        return refused(10);
-    }
-    Reading::Read {
-        units,
-        groups: progress.groups,
-    }
+    scan_lines(text, lows, highs, flat)
 }
 
 // Copies the first numbers of a list to the front of another.

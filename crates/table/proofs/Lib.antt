@@ -1,4 +1,2 @@
-pub mod Closing
-pub mod Lending
 pub mod Thin
 pub mod Walks

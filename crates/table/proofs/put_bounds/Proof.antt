@@ -44,8 +44,9 @@ use Rattle.table.specs.declared.Range.{Range}
 use Rattle.table.specs.declared.Bounds.{Bounds}
 use Rattle.table.specs.Tables.{over, ranges}
 use Rattle.table.specs.Laws.{over-length, over-ranges}
-use Rattle.table.proofs.Closing.{proved}
-use Rattle.table.proofs.Walks.{R, word, arr, none, vals, counts, typed, array-out, array-free, boundsVal, bounds-are, lows-are, highs-are, number-out, number-back, releases}
+use Rattle.job.proofs.Closing.{proved}
+use Rattle.job.proofs.Releasing.{releases}
+use Rattle.table.proofs.Walks.{R, word, arr, none, vals, counts, typed, array-out, array-free, boundsVal, bounds-are, lows-are, highs-are, number-out, number-back}
 use Rattle.table.proofs.Range as T
 use Rattle.table.proofs.Range.Laws as T′
 use Rattle.table.proofs.Bounds as B

@@ -44,10 +44,12 @@ use Rattle.table.specs.Tables.{lowsOf, highsOf, ranges, boundsOf, afterS
 use Rattle.table.specs.Laws.{over-length}
 use Rattle.table.specs.Fronts.{putBack, settled-table}
 use Rattle.works.specs.Calls.{settlement}
-use Rattle.table.proofs.Closing.{proved}
-use Rattle.table.proofs.Lending.{sliceAt, passes-on}
+use Rattle.job.proofs.Closing.{proved}
+use Rattle.job.proofs.Lending.{sliceAt}
+use Rattle.job.proofs.Passing.{passes-on}
 use Rattle.table.proofs.Thin.{Take, Put, takes, puts}
-use Rattle.table.proofs.Walks.{releases, lows-length, highs-length}
+use Rattle.job.proofs.Releasing.{releases}
+use Rattle.table.proofs.Walks.{lows-length, highs-length}
 use Rattle.table.proofs.Range as T
 use Rattle.table.proofs.Bounds as B
 use Rattle.table.proofs.Bounds.Laws as B′

@@ -51,8 +51,9 @@ use Rattle.table.specs.declared.Range.{Range}
 use Rattle.table.specs.declared.Bounds.{Bounds}
 use Rattle.table.specs.Tables.{over, lowsOf, highsOf, zeros}
 use Rattle.table.specs.Laws.{over-length, over-map, zeros-are, zeros-length}
-use Rattle.table.proofs.Closing.{proved}
-use Rattle.table.proofs.Walks.{R, word, arr, none, vals, counts, typed, zeroes, array-out, array-in, boundsVal, bounds-are, number-out, number-put, releases}
+use Rattle.job.proofs.Closing.{proved}
+use Rattle.job.proofs.Releasing.{releases}
+use Rattle.table.proofs.Walks.{R, word, arr, none, vals, counts, typed, zeroes, array-out, array-in, boundsVal, bounds-are, number-out, number-put}
 use Rattle.table.proofs.Range as T
 use Rattle.table.proofs.Range.Laws as T′
 use Rattle.table.proofs.Bounds as B

@@ -32,8 +32,8 @@ use denote.Triple.Entry.{onEntry}
 use denote.Triple.Walked.{says, Stays, stay-none-slice, walkOf, goes-none-slice, Walks, ends-at, walked}
 use denote.Exit.{yes}
 use Rattle.table.specs.declared.Reader.{Reader}
-use Rattle.table.proofs.Closing.{proved}
-use Rattle.table.proofs.Walks.{releases}
+use Rattle.job.proofs.Closing.{proved}
+use Rattle.job.proofs.Releasing.{releases}
 use Rattle.table.proofs.Reader as T
 use Rattle.table.proofs.Reader.Laws as T′
 use Rattle.table.proofs.Reader.new.Key.{name as #table·new}

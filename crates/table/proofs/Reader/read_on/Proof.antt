@@ -45,8 +45,8 @@ use Rattle.table.specs.Tables.{afterReading}
 use Rattle.table.specs.declared.Reader.{Reader}
 use Rattle.table.specs.declared.Bounds.{Bounds}
 use Rattle.table.specs.declared.ReadBounds.{ReadBounds}
-use Rattle.table.proofs.Closing.{proved}
-use Rattle.table.proofs.Walks.{releases}
+use Rattle.job.proofs.Closing.{proved}
+use Rattle.job.proofs.Releasing.{releases}
 use Rattle.table.proofs.Reader as T
 use Rattle.table.proofs.Reader.Laws as T′
 use Rattle.table.proofs.Bounds as B
