@@ -1,14 +1,16 @@
 -- The search for the end of a range of values that pass a test. Assumes nothing.
-use Prim.Native.Nat.{ℕ, _≤_, _<_}
+use Prim.Native.Nat.{ℕ, _+_, _/_, _≤_, _<_}
 use native.Mathlib.Decide.{decLt}
 use native.Mathlib.Omega.{arith}
 use mathlib.Core.Bool.{Bool, true, false}
 use mathlib.Core.List.{List}
-use mathlib.Core.Path.{_≡_}
+use mathlib.Core.Logic.{_≢_}
+use mathlib.Core.Path.{_≡_, sym, ap, _∙_}
 use lib.ListN.{length, getD}
 use Rattle.model.specs.Shares.{greatestShare}
 use Rattle.model.specs.Figures.{apart}
 use Rattle.model.specs.Plans.{taken}
+use Rattle.model.specs.Laws.Tests.{clash}
 use Rattle.model.specs.declared.Limits.{Limits}
 use Rattle.group.specs.Tabled.{Tabled, HasPlan}
 
@@ -40,6 +42,36 @@ pub data Reach (test : ℕ → Bool) (end inside : ℕ) : ℕ → Type 0 where
   whole : test end ≡ true → Reach test end inside end
   part : {r : ℕ} → test end ≡ false → Edge test end inside r → Reach test end inside r
 
+-- the end itself, or a value on the way from it to inside whose neighbour before it fails, as the end does
+pub data Nearest (test : ℕ → Bool) (end inside : ℕ) : ℕ → Type 0 where
+  whole : Nearest test end inside end
+  part : {r : ℕ} (outer : ℕ) → test end ≡ false → test outer ≡ false → apart outer r ≤ 1
+      → (end < inside → (end ≤ outer) × (outer < r) × (r ≤ inside))
+      → (inside < end → (inside ≤ r) × (r < outer) × (outer ≤ end)) → Nearest test end inside r
+
+module _ {test : ℕ → Bool} {end inside : ℕ} where
+  -- where it passes, values pass up to it
+  pub nearest-reach : {r : ℕ} → Nearest test end inside r → test r ≡ true → Reach test end inside r
+  nearest-reach Nearest.whole passes = Reach.whole passes
+  nearest-reach (Nearest.part outer fails fails-outer near rising falling) passes =
+      Reach.part fails (record { outer = outer; straddle = record { fails = fails-outer; passes = passes; rising = rising; falling = falling }; near = near })
+
+  -- where it fails, an edge on the way to it is one on the way to the end
+  pub nearest-edge : {r : ℕ} → Nearest test end inside r → test r ≡ false → test inside ≡ true → {e : ℕ} → Edge test r inside e → Reach test end inside e
+  nearest-edge Nearest.whole fails passes edge = Reach.part fails edge
+  nearest-edge {r} (Nearest.part outer fails fails-outer near rising falling) fails-here passes edge =
+      let other : r ≢ inside = (λ same. clash passes (ap test (sym same) ∙ fails-here)) in
+      Reach.part fails (record {
+        outer = edge .outer;
+        straddle = record {
+          fails = edge .straddle .fails;
+          passes = edge .straddle .passes;
+          rising = λ h. let (a, b, c) = rising h in let less : r < inside = omega (arith, other) in omega (arith, edge .straddle .rising less);
+          falling = λ h. let (a, b, c) = falling h in let less : inside < r = omega (arith, other) in omega (arith, edge .straddle .falling less);
+        };
+        near = edge .near;
+      })
+
 -- a way from a share that some plan gives member i to an end
 pub record Approach (lows highs table : List ℕ) (total : ℕ) (limits : Limits) (i end share : ℕ) : Type 0 where
   pub tabled : Tabled lows highs total table
@@ -60,6 +92,10 @@ pub record Planned (lows highs : List ℕ) (total : ℕ) (limits : Limits) (i sh
 pub record Amid (outer inner middle : ℕ) : Type 0 where
   pub rising : outer < inner → (outer < middle) × (middle < inner)
   pub falling : inner < outer → (inner < middle) × (middle < outer)
+
+-- halfway is
+pub halfway : {outer inner : ℕ} → 1 < apart outer inner → Amid outer inner ((outer + inner) / 2)
+halfway far = record { rising = λ less. (omega arith, omega arith); falling = λ more. (omega arith, omega arith) }
 
 -- it is nearer to both than they are to each other, and no greater than both
 pub amid-nearer : {outer inner middle most : ℕ} → 1 < apart outer inner → outer ≤ most → inner ≤ most → Amid outer inner middle

@@ -7,28 +7,43 @@ use mathlib.Core.Path.{_≡_, sym, ap, _∙_}
 use native.Mathlib.Omega.{arith}
 use lib.ListN.{length, getD}
 use Rattle.model.specs.Shares.{Within, greatestShare}
-use Rattle.model.specs.Levels.{levelled}
-use Rattle.model.specs.Plans.{taken, narrowedLow, narrowedHigh}
-use Rattle.model.specs.Laws.Ends.{levelled-taken, low-unique, high-unique}
-use Rattle.model.specs.Laws.Levelled.{levelled-within}
+use Rattle.model.specs.Figures.{deviation, spread}
+use Rattle.model.specs.Levels.{topped}
+use Rattle.model.specs.Plans.{Plan, taken, narrowedLow, narrowedHigh}
+use Rattle.model.specs.Laws.Ends.{low-unique, high-unique}
+use Rattle.model.specs.Laws.Levelled.{topped-within}
 use Rattle.model.specs.Laws.Lists.{ranges-at, within-at, within-length}
+use Rattle.model.specs.Laws.Pinned.{plan-taken}
+use Rattle.model.specs.Laws.Plans.{found-plan}
 use Rattle.model.specs.Laws.Tests.{clash}
+use Rattle.model.specs.Laws.Transfer.{deviation-schur, spread-schur}
 use Rattle.model.specs.declared.Limits.{Limits}
+use Rattle.probe.specs.Pins.{Reached, reached-adds, reached-figure}
 use Rattle.group.specs.Tabled.{Tabled, HasPlan}
 use Rattle.group.specs.Edges.{Edge, Reach, Approach, Planned}
 
--- a group that has a plan gives member i its levelled share by one
-pub levelled-planned : {lows highs : List ℕ} {total : ℕ} {limits : Limits} → HasPlan lows highs total limits → (i : ℕ) → i < length lows
-    → Planned lows highs total limits i (getD (levelled lows highs total) i 0)
-levelled-planned {lows} {highs} {total} {limits} has i below =
-    let within : Within lows highs (levelled lows highs total) = levelled-within (has .sound .ranges) total in
+-- a group that has a plan gives member i its share at the level reached by one
+pub levelled-planned : {lows highs : List ℕ} {total : ℕ} {limits : Limits} → HasPlan lows highs total limits
+    → {m c w r : ℕ} → Reached lows highs total m c w r → (i : ℕ) → i < length lows
+    → Planned lows highs total limits i (getD (topped lows highs w r) i 0)
+levelled-planned {lows} {highs} {total} {limits} has {m} {c} {w} {r} reached i below =
+    let within : Within lows highs (topped lows highs w r) = topped-within (has .sound .ranges) w r in
     let range = within-at within i (omega (arith, within-length within)) in
+    let found = found-plan (has .sound .ranges) total limits (has .found) in
+    let plan : Plan lows highs total limits (topped lows highs w r) = record {
+      within = within;
+      adds = reached-adds (has .sound .ranges) reached;
+      meets = rw (
+        reached-figure (has .sound .ranges) reached (deviation (length lows) total) (deviation-schur (length lows) total),
+        reached-figure (has .sound .ranges) reached (spread (length lows) total) (spread-schur (length lows) total),
+      ) at (found .meets);
+    } in
     record {
       has = has;
       here = below;
       low = range .0;
       high = range .1;
-      passes = levelled-taken (has .sound .ranges) total limits (has .found) i below;
+      passes = plan-taken (has .sound .ranges) i below plan;
     }
 
 module _ {lows highs : List ℕ} {total : ℕ} {limits : Limits} {i share : ℕ} (planned : Planned lows highs total limits i share) where

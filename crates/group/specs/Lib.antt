@@ -6,5 +6,6 @@ pub mod Levelling
 pub mod Passed
 pub mod Tabled
 pub mod Edges
+pub mod Reaching
 pub mod Ends
 pub mod Narrowing

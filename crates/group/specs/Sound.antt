@@ -1,7 +1,7 @@
 -- The lists that the inner functions ask for, and how large their sums are. Assumes nothing.
 use Prim.Native.Nat.{ℕ, _*_, _≤_}
 use mathlib.Core.Bool.{true}
-use borrow.Author.Tests.{leb-true}
+use borrow.Author.Tests.{leb-true, le-leb}
 use lib.Dec.{leb}
 use mathlib.Core.List.{List}
 use mathlib.Core.Path.{_≡_, sym}
@@ -10,7 +10,7 @@ use lib.ListN.{length}
 use Rattle.model.specs.Shares.{Ranges, greatestShare, sum}
 use Rattle.model.specs.Levels.{totalAt, clamped, level, topped, remainder, levelled}
 use Rattle.model.specs.Plans.{hasShares}
-use Rattle.model.specs.Laws.Tests.{both-left, both-right}
+use Rattle.model.specs.Laws.Tests.{both, both-left, both-right}
 use Rattle.model.specs.Laws.Lists.{ranges-length, within-length}
 use Rattle.model.specs.Laws.Levelled.{levelled-adds, levelled-within}
 use Rattle.model.specs.Laws.Level.{totalAt-cons, totalAt-least, totalAt-greatest, clamp-at-most}
@@ -60,6 +60,10 @@ pub record HasShares (lows highs : List ℕ) (total : ℕ) : Type 0 where
 pub has-shares : {lows highs : List ℕ} → Sound lows highs → (total : ℕ) → hasShares lows highs total ≡ true → HasShares lows highs total
 has-shares {lows} {highs} s total exist =
     record { sound = s; low = leb-true _ _ (both-left _ _ exist); high = leb-true _ _ (both-right (leb (sum lows) total) _ exist) }
+
+-- and where they exist, the test finds them
+pub shares-had : {lows highs : List ℕ} {total : ℕ} → HasShares lows highs total → hasShares lows highs total ≡ true
+shares-had shared = both (le-leb _ _ (shared .low)) (le-leb _ _ (shared .high))
 
 -- the shares at the level, with the copies left over handed out, are the levelled shares
 pub levelled-is : (lows highs : List ℕ) (total v left : ℕ) → v ≡ level lows highs total → left ≡ remainder lows highs total

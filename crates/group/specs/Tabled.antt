@@ -8,10 +8,9 @@ use native.Mathlib.Omega.{arith}
 use lib.ListN.{length, getD, set, length-set}
 use lib.Seq.{getD-set-same, getD-set-other, ext-getD}
 use Rattle.model.specs.Plans.{hasPlan}
-use Rattle.model.specs.Laws.Tests.{both-left}
 use Rattle.model.specs.declared.Limits.{Limits}
 use Rattle.probe.specs.Tables as probed
-use Rattle.group.specs.Sound.{Sound, greatestCount, HasShares, has-shares, highs-small}
+use Rattle.group.specs.Sound.{Sound, greatestCount, HasShares, highs-small}
 
 -- a group with the table that its values are looked up in
 pub record Tabled (lows highs : List ℕ) (total : ℕ) (table : List ℕ) : Type 0 where
@@ -43,11 +42,6 @@ probe-sound shared = record {
 pub record HasPlan (lows highs : List ℕ) (total : ℕ) (limits : Limits) : Type 0 where
   pub sound : Sound lows highs
   pub found : hasPlan lows highs total limits ≡ true
-
--- it has shares
-pub plan-shares : {lows highs : List ℕ} {total : ℕ} {limits : Limits} → HasPlan lows highs total limits → HasShares lows highs total
-unfolding hasPlan
-plan-shares {lows} {highs} {total} has = has-shares (has .sound) total (both-left _ _ (has .found))
 
 -- of n numbers, those before i are f 0, f 1, ..
 pub record Filled (n : ℕ) (f : ℕ → ℕ) (i : ℕ) (xs : List ℕ) : Type 0 where

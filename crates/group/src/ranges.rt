@@ -2,45 +2,29 @@
 use crate::plans::apart;
 use crate::plans::has_shares;
 use crate::shares::extra;
-use crate::shares::level_at;
-use crate::shares::remainder_at;
-use crate::shares::smaller;
 use model::Limits;
-use model::Share;
 use model::Turn;
 use probe::build::build;
 use probe::build::copy;
 use probe::pins::clamp;
+use probe::pins::into_reach;
+use probe::probing::Levelled;
 use probe::probing::has_plan;
+use probe::probing::level_on;
 use probe::probing::probe;
 ghost use mathlib.Core.Bool.{false};
 ghost use mathlib.Core.Path.{_≡_};
-ghost use Prim.Native.Nat.{_≤_, _<_};
-ghost use lib.ListN.{length};
-ghost use Rattle.model.specs.Shares.{greatestShare};
-ghost use Rattle.model.specs.Figures.{apart};
+ghost use Prim.Native.Nat.{_*_, _≤_};
+ghost use lib.ListN.{length, getD};
 ghost use Rattle.model.specs.Plans.{taken, turnOf, narrowedLows, narrowedHighs};
-ghost use Rattle.group.specs.Sound.{Sound};
+ghost use Rattle.probe.specs.Probes.{InReach, LevelledOn};
+ghost use Rattle.group.specs.Sound.{Sound, HasShares};
 ghost use Rattle.group.specs.Narrowing.{afterTurn};
-ghost use Rattle.group.specs.Edges.{Edge, Reach, Amid, Approach};
+ghost use Rattle.group.specs.Edges.{Edge, Reach, Approach};
 ghost use Rattle.group.specs.Tabled.{Tabled, HasPlan, Room, Space};
 
-// A value between two others, at most a step and at most half the way from the first.
-fn part_way(outer: u64, inner: u64, step: u64) -> u64
-    requires { ⌜ 1 < apart outer inner ⌝ }
-    requires { ⌜ inner ≤ greatestShare ⌝ }
-    requires { ⌜ 0 < step ⌝ }
-    ensures { λ r. ⌜ Amid outer inner r ⌝ }
-{
-    let part = smaller(step, apart(outer, inner) / 2);
-    if outer < inner {
-        return outer + part;
-    }
-    outer - part
-}
-
-// The value nearest to outside, which no plan gives member i, on the way from inside, which some plan does: by growing
-// steps from outside, and then by bisection.
+// The value nearest to outside, which no plan gives member i, on the way from inside, which some plan does: by bisection,
+// each step looking for its row from that of the step before.
 fn edge(
     lows: &[u64],
     highs: &[u64],
@@ -50,18 +34,21 @@ fn edge(
     i: usize,
     outside: u64,
     inside: u64,
+    near: usize,
 ) -> u64
     requires { ⌜ Approach (now lows) (now highs) (now table) total limits i outside inside ⌝ }
+    requires { ⌜ InReach (now table) (2 * length (now lows)) (getD (now lows) i 0) (getD (now highs) i 0) outside total ⌝ }
     requires { ⌜ taken (now lows) (now highs) total limits i outside ≡ false ⌝ }
     ensures { λ r. ⌜ Edge (taken (now (lows .entry)) (now (highs .entry)) total limits i) outside inside r ⌝ }
 {
     let mut outer = outside;
     let mut inner = inside;
-    let mut step: u64 = 1;
+    let mut row = near;
     while 1 < apart(outer, inner) {
-        let middle = part_way(outer, inner, step);
-        step = smaller(16 * step, Share::GREATEST);
-        if probe(lows, highs, table, total, limits, i, middle) {
+        let middle = (outer + inner) / 2;
+        let probed = probe(lows, highs, table, total, limits, i, middle, row);
+        row = probed.row;
+        if probed.taken {
             inner = middle;
         } else {
             outer = middle;
@@ -80,14 +67,18 @@ fn farthest_taken(
     i: usize,
     end: u64,
     share: u64,
+    near: usize,
 ) -> u64
     requires { ⌜ Approach (now lows) (now highs) (now table) total limits i end share ⌝ }
     ensures { λ r. ⌜ Reach (taken (now (lows .entry)) (now (highs .entry)) total limits i) end share r ⌝ }
 {
-    if probe(lows, highs, table, total, limits, i, end) {
-        return end;
+    let nearest = into_reach(table, 2 * lows.len(), lows[i], highs[i], end, total);
+    let probed = probe(lows, highs, table, total, limits, i, nearest, near);
+    if probed.taken {
+        return nearest;
     }
-    edge(lows, highs, table, total, limits, i, end, share)
+    let row = probed.row;
+    edge(lows, highs, table, total, limits, i, nearest, share, row)
 }
 
 // Writes the narrowed lows over starts and the narrowed highs over stops.
@@ -97,18 +88,21 @@ fn narrow_members(
     table: &[u64],
     total: u64,
     limits: Limits,
+    levelled: Levelled,
     starts: &mut [u64],
     stops: &mut [u64],
 )
     requires { ⌜ HasPlan (now lows) (now highs) total limits ⌝ }
     requires { ⌜ Tabled (now lows) (now highs) total (now table) ⌝ }
+    requires { ⌜ LevelledOn (now lows) (now highs) (now table) total levelled ⌝ }
     requires { ⌜ length (now starts) ≡ length (now lows) ⌝ }
     requires { ⌜ length (now stops) ≡ length (now lows) ⌝ }
     ensures { λ _. ⌜ now (starts .exit) ≡ narrowedLows (now (lows .entry)) (now (highs .entry)) total limits ⌝ }
     ensures { λ _. ⌜ now (stops .exit) ≡ narrowedHighs (now (lows .entry)) (now (highs .entry)) total limits ⌝ }
 {
-    let v = level_at(lows, highs, total);
-    let mut left = remainder_at(lows, highs, total, v);
+    let row = levelled.row;
+    let v = levelled.level;
+    let mut left = levelled.over;
     let mut i: usize = 0;
     while i < lows.len() {
         let low = lows[i];
@@ -116,10 +110,39 @@ fn narrow_members(
         let more = extra(low, high, v, left);
         let share = clamp(low, high, v) + more;
         left -= more;
-        starts[i] = farthest_taken(lows, highs, table, total, limits, i, low, share);
-        stops[i] = farthest_taken(lows, highs, table, total, limits, i, high, share);
+        starts[i] = farthest_taken(lows, highs, table, total, limits, i, low, share, row);
+        stops[i] = farthest_taken(lows, highs, table, total, limits, i, high, share, row);
         i += 1;
     }
+}
+
+// Narrows a group that has shares in place, over its table, or says that it has no plan. Starts and stops are room to work in.
+fn narrow_on(
+    lows: &mut [u64],
+    highs: &mut [u64],
+    table: &[u64],
+    total: u64,
+    limits: Limits,
+    starts: &mut [u64],
+    stops: &mut [u64],
+) -> Turn
+    requires { ⌜ HasShares (now lows) (now highs) total ⌝ }
+    requires { ⌜ Tabled (now lows) (now highs) total (now table) ⌝ }
+    requires { ⌜ length (now starts) ≡ length (now lows) ⌝ }
+    requires { ⌜ length (now stops) ≡ length (now lows) ⌝ }
+    ensures { λ r. ⌜ r ≡ turnOf (now (lows .entry)) (now (highs .entry)) total limits ⌝ }
+    ensures { λ r. ⌜ now (lows .exit) ≡ afterTurn r (narrowedLows (now (lows .entry)) (now (highs .entry)) total limits) (now (lows .entry)) ⌝ }
+    ensures { λ r. ⌜ now (highs .exit) ≡ afterTurn r (narrowedHighs (now (lows .entry)) (now (highs .entry)) total limits) (now (highs .entry)) ⌝ }
+{
+    let levelled = level_on(lows, highs, table, total);
+    let row = levelled.row;
+    if !has_plan(lows, highs, table, row, total, limits) {
+        return Turn::NoPlan(12);
+    }
+    narrow_members(lows, highs, table, total, limits, levelled, starts, stops);
+    copy(starts, lows);
+    copy(stops, highs);
+    Turn::Narrowed
 }
 
 // Narrows sound lists in place, or says that there is no plan and leaves them as they were. The three further lists
@@ -143,16 +166,10 @@ fn narrow_with(
         return Turn::NoPlan(11);
     }
     build(lows, highs, starts, stops, total, table);
-    if !has_plan(lows, highs, table, total, limits) {
-        return Turn::NoPlan(12);
-    }
-    narrow_members(lows, highs, table, total, limits, starts, stops);
-    copy(starts, lows);
-    copy(stops, highs);
-    Turn::Narrowed
+    narrow_on(lows, highs, table, total, limits, starts, stops)
 }
 
-// The same with arrays that have room for every group.
+// The same with arrays that have room for the group.
 fn narrow_within(
     lows: &mut [u64],
     highs: &mut [u64],
@@ -180,6 +197,28 @@ fn narrow_within(
     )
 }
 
+// The same for a group of at most 16 members, with small arrays: large ones would take longer to clear than the rest takes.
+fn narrow_few(lows: &mut [u64], highs: &mut [u64], total: u64, limits: Limits) -> Turn
+    requires { ⌜ Sound (now lows) (now highs) ⌝ }
+    requires { ⌜ length (now lows) ≤ 16 ⌝ }
+    ensures { λ r. ⌜ r ≡ turnOf (now (lows .entry)) (now (highs .entry)) total limits ⌝ }
+    ensures { λ r. ⌜ now (lows .exit) ≡ afterTurn r (narrowedLows (now (lows .entry)) (now (highs .entry)) total limits) (now (lows .entry)) ⌝ }
+    ensures { λ r. ⌜ now (highs .exit) ≡ afterTurn r (narrowedHighs (now (lows .entry)) (now (highs .entry)) total limits) (now (highs .entry)) ⌝ }
+{
+    let mut starts = [0u64; 16];
+    let mut stops = [0u64; 16];
+    let mut table = [0u64; 198];
+    narrow_within(
+        lows,
+        highs,
+        total,
+        limits,
+        &mut starts,
+        &mut stops,
+        &mut table,
+    )
+}
+
 // Narrows sound lists in place, or says that there is no plan and leaves them as they were.
 pub fn narrow_core(lows: &mut [u64], highs: &mut [u64], total: u64, limits: Limits) -> Turn
     requires { ⌜ Sound (now lows) (now highs) ⌝ }
@@ -187,6 +226,9 @@ pub fn narrow_core(lows: &mut [u64], highs: &mut [u64], total: u64, limits: Limi
     ensures { λ r. ⌜ now (lows .exit) ≡ afterTurn r (narrowedLows (now (lows .entry)) (now (highs .entry)) total limits) (now (lows .entry)) ⌝ }
     ensures { λ r. ⌜ now (highs .exit) ≡ afterTurn r (narrowedHighs (now (lows .entry)) (now (highs .entry)) total limits) (now (highs .entry)) ⌝ }
 {
+    if lows.len() <= 16 {
+        return narrow_few(lows, highs, total, limits);
+    }
     let mut starts = [0u64; 256];
     let mut stops = [0u64; 256];
     let mut table = [0u64; 3078];

@@ -10,3 +10,4 @@ pub mod Fills
 pub mod Probes
 pub mod Figures
 pub mod Verdicts
+pub mod Reaching

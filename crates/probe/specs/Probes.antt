@@ -9,6 +9,7 @@ use Rattle.model.specs.Levels.{clamp, totalAt, growth}
 use Rattle.model.specs.Laws.Lists.{sum-sumOf}
 use Rattle.probe.specs.declared.rows.Row.{Row}
 use Rattle.probe.specs.declared.pins.Reach.{Reach}
+use Rattle.probe.specs.declared.probing.Levelled.{Levelled}
 use Rattle.probe.specs.Rows.{rowAt}
 use Rattle.probe.specs.Spans.{Span}
 use Rattle.probe.specs.Tables.{Sound, Table, itself, small-itself, greatestPart, clamped-small}
@@ -35,6 +36,18 @@ pub record Found (table : List ℕ) (last low high v total k : ℕ) : Type 0 whe
   pub upTo : k ≤ last
   pub holds : pinnedTotal (rowAt table k) low high v ≤ total
   pub next : k < last → total < pinnedTotal (rowAt table (suc k)) low high v
+
+-- the other members can make up for v
+pub record InReach (table : List ℕ) (last low high v total : ℕ) : Type 0 where
+  pub least : pinnedTotal (rowAt table 0) low high v ≤ total
+  pub greatest : total ≤ pinnedTotal (rowAt table last) low high v
+
+-- v moved up by what is short of the total, or down by what is too much
+pub record IntoReach (table : List ℕ) (last low high v total r : ℕ) : Type 0 where
+  pub short : pinnedTotal (rowAt table last) low high v < total → r ≡ v + (total - pinnedTotal (rowAt table last) low high v)
+  pub long : total ≤ pinnedTotal (rowAt table last) low high v → total < pinnedTotal (rowAt table 0) low high v
+      → r + (pinnedTotal (rowAt table 0) low high v - total) ≡ v
+  pub within : InReach table last low high v total → r ≡ v
 
 -- the copies left over at a row, divided among the members that grow there, but for the pinned one
 pub record Divided (row : Row) (low high left : ℕ) (reach : Reach) : Type 0 where
@@ -121,6 +134,13 @@ module _ {lows highs table lows′ highs′ : List ℕ} {total low high v : ℕ}
               rw (level, growing, over) (reached-mark lows′ highs′ total (row .mark) (held .sums k (found .upTo) .share)
               (omega (arith, pinned-total k (found .upTo), found .holds)))
         ]
+
+-- a level with copies left over that gives the group its total, and the row below it
+pub record LevelledOn (lows highs table : List ℕ) (total : ℕ) (at : Levelled) : Type 0 where
+  pub found : Found table (2 * length lows) 0 0 0 total (at .row)
+  pub mark : ℕ
+  pub moving : ℕ
+  pub reached : Reached lows highs total mark moving (at .level) (at .over)
 
 -- those that grow and the copies left over are at most as many as the lows passed
 pub divided-few : {row : Row} {low high left : ℕ} {reach : Reach} → Divided row low high left reach → row .lows ≤ 256

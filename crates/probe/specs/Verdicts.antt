@@ -118,7 +118,3 @@ pub record Asked (lows highs : List ℕ) (low high v : ℕ) : Type 0 where
 -- the answer for such ranges: whether their levelled shares are within the limits
 pub record Meets (lows highs : List ℕ) (low high v total : ℕ) (limits : Limits) (answer : Bool) : Type 0 where
   pub is : {lows′ highs′ : List ℕ} → Pin lows highs low high v lows′ highs′ → answer ≡ meets limits (length lows′) total (levelled lows′ highs′ total)
-
--- whether they have a plan
-pub record Decides (lows highs : List ℕ) (low high v total : ℕ) (limits : Limits) (answer : Bool) : Type 0 where
-  pub is : {lows′ highs′ : List ℕ} → Pin lows highs low high v lows′ highs′ → answer ≡ hasPlan lows′ highs′ total limits

@@ -2,10 +2,10 @@
 use crate::rows::Row;
 use crate::rows::read_row;
 ghost use mathlib.Core.Path.{_≡_};
-ghost use Prim.Native.Nat.{_+_, _≤_, _<_};
+ghost use Prim.Native.Nat.{_+_, _-_, _≤_, _<_};
 ghost use Rattle.model.specs.Levels.{clamp, growth};
 ghost use Rattle.probe.specs.Rows.{rowAt};
-ghost use Rattle.probe.specs.Probes.{Pinnable, Probeable, Found, Divided, pinnedTotal};
+ghost use Rattle.probe.specs.Probes.{Pinnable, Probeable, Found, IntoReach, Divided, pinnedTotal};
 
 // A level, how many members grew up to it from the row below, and the copies left over there.
 pub struct Reach {
@@ -49,17 +49,46 @@ pub fn pinned_total(row: Row, low: u64, high: u64, v: u64) -> u64
     row.total + v - clamp(low, high, row.mark)
 }
 
-// The last row with the pinned group's T at most the total, by bisection between k, which has it, and top, which has not or is past the last.
-pub fn last_within(table: &[u64], last: usize, low: u64, high: u64, v: u64, total: u64) -> usize
+// A row strictly between two others: near where it is one, else a step from the one next to near, or halfway where that is too far.
+fn row_between(k: usize, top: usize, near: usize, step: usize) -> usize
+    requires { ⌜ 1 < top - k ⌝ }
+    requires { ⌜ 0 < step ⌝ }
+    ensures { λ r. ⌜ (k < r) × (r < top) ⌝ }
+{
+    let gap = top - k;
+    if gap <= step {
+        return k + gap / 2;
+    }
+    if near <= k {
+        return k + step;
+    }
+    if top <= near {
+        return top - step;
+    }
+    near
+}
+
+// The last row with the pinned group's T at most the total, searched from near by growing steps between k, which has it, and top, which has not or is past the last.
+pub fn last_within(
+    table: &[u64],
+    last: usize,
+    low: u64,
+    high: u64,
+    v: u64,
+    total: u64,
+    near: usize,
+) -> usize
     requires { ⌜ Probeable (now table) last low high v ⌝ }
     requires { ⌜ pinnedTotal (rowAt (now table) 0) low high v ≤ total ⌝ }
     ensures { λ r. ⌜ Found (now (table .entry)) last low high v total r ⌝ }
 {
     let mut k: usize = 0;
     let mut top: usize = last + 1;
+    let mut step: usize = 1;
     while 1 < top - k {
-        let middle = k + (top - k) / 2;
+        let middle = row_between(k, top, near, step);
         let row = read_row(table, middle);
+        step += 2;
         if pinned_total(row, low, high, v) <= total {
             k = middle;
         } else {
@@ -67,6 +96,26 @@ pub fn last_within(table: &[u64], last: usize, low: u64, high: u64, v: u64, tota
         }
     }
     k
+}
+
+// A value moved to where the other members can make up for it.
+pub fn into_reach(table: &[u64], last: usize, low: u64, high: u64, v: u64, total: u64) -> u64
+    requires { ⌜ Probeable (now table) last low high v ⌝ }
+    requires { ⌜ total ≤ 256_000_000 ⌝ }
+    requires { ⌜ pinnedTotal (rowAt (now table) 0) low high v ≤ total + v ⌝ }
+    ensures { λ r. ⌜ IntoReach (now (table .entry)) last low high v total r ⌝ }
+{
+    let end = read_row(table, last);
+    let greatest = pinned_total(end, low, high, v);
+    if greatest < total {
+        return v + (total - greatest);
+    }
+    let first = read_row(table, 0);
+    let least = pinned_total(first, low, high, v);
+    if total < least {
+        return v - (least - total);
+    }
+    v
 }
 
 // The level that the copies left over at a row reach.

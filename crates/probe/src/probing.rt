@@ -11,13 +11,13 @@ use model::Limits;
 use model::Spread;
 ghost use mathlib.Core.Path.{_≡_};
 ghost use Prim.Native.Nat.{_*_, _≤_, _<_};
-ghost use lib.ListN.{length};
+ghost use lib.ListN.{length, getD};
 ghost use Rattle.model.specs.Shares.{greatestShare};
 ghost use Rattle.model.specs.Plans.{hasPlan, taken};
 ghost use Rattle.probe.specs.Rows.{rowAt};
 ghost use Rattle.probe.specs.Tables.{Sound, Table};
-ghost use Rattle.probe.specs.Probes.{Found, pinnedTotal};
-ghost use Rattle.probe.specs.Verdicts.{Asked, Meets, Decides};
+ghost use Rattle.probe.specs.Probes.{Found, InReach, LevelledOn, pinnedTotal};
+ghost use Rattle.probe.specs.Verdicts.{Asked, Meets};
 
 // Whether the pinned group's levelled shares are within the limits, from the row below its level.
 fn met_at(
@@ -51,36 +51,13 @@ fn met_at(
     )
 }
 
-// Whether the group has a plan with v in place of what a member with this low and high has.
-fn decide(
-    lows: &[u64],
-    highs: &[u64],
-    table: &[u64],
-    low: u64,
-    high: u64,
-    v: u64,
-    total: u64,
-    limits: Limits,
-) -> bool
-    requires { ⌜ Sound (now lows) (now highs) total ⌝ }
-    requires { ⌜ Table (now lows) (now highs) total (now table) ⌝ }
-    requires { ⌜ Asked (now lows) (now highs) low high v ⌝ }
-    ensures { λ r. ⌜ Decides (now (lows .entry)) (now (highs .entry)) low high v total limits r ⌝ }
-{
-    let last = 2 * lows.len();
-    let first = read_row(table, 0);
-    if total < pinned_total(first, low, high, v) {
-        return false;
-    }
-    let end = read_row(table, last);
-    if pinned_total(end, low, high, v) < total {
-        return false;
-    }
-    let k = last_within(table, last, low, high, v, total);
-    met_at(lows, highs, table, k, low, high, v, total, limits)
+// Whether some plan takes a value, and the row below the level found for it.
+pub struct Probed {
+    pub taken: bool,
+    pub row: usize,
 }
 
-// Whether the group with member i pinned to v has a plan.
+// Whether the group with member i pinned to v, which the others can make up for, has a plan; near is a row to look at first.
 pub fn probe(
     lows: &[u64],
     highs: &[u64],
@@ -89,21 +66,62 @@ pub fn probe(
     limits: Limits,
     i: usize,
     v: u64,
-) -> bool
+    near: usize,
+) -> Probed
     requires { ⌜ Sound (now lows) (now highs) total ⌝ }
     requires { ⌜ Table (now lows) (now highs) total (now table) ⌝ }
     requires { ⌜ i < length (now lows) ⌝ }
     requires { ⌜ v ≤ greatestShare ⌝ }
-    ensures { λ r. ⌜ r ≡ taken (now (lows .entry)) (now (highs .entry)) total limits i v ⌝ }
+    requires { ⌜ InReach (now table) (2 * length (now lows)) (getD (now lows) i 0) (getD (now highs) i 0) v total ⌝ }
+    ensures { λ r. ⌜ r .taken ≡ taken (now (lows .entry)) (now (highs .entry)) total limits i v ⌝ }
 {
-    decide(lows, highs, table, lows[i], highs[i], v, total, limits)
+    let low = lows[i];
+    let high = highs[i];
+    let row = last_within(table, 2 * lows.len(), low, high, v, total, near);
+    let taken = met_at(lows, highs, table, row, low, high, v, total, limits);
+    Probed { taken, row }
 }
 
-// Whether the group has a plan.
-pub fn has_plan(lows: &[u64], highs: &[u64], table: &[u64], total: u64, limits: Limits) -> bool
+// A level with the copies left over there, and the row below it.
+pub struct Levelled {
+    pub row: usize,
+    pub level: u64,
+    pub over: u64,
+}
+
+// The level at which the group has its total.
+pub fn level_on(lows: &[u64], highs: &[u64], table: &[u64], total: u64) -> Levelled
     requires { ⌜ Sound (now lows) (now highs) total ⌝ }
     requires { ⌜ Table (now lows) (now highs) total (now table) ⌝ }
+    requires { ⌜ InReach (now table) (2 * length (now lows)) 0 0 0 total ⌝ }
+    ensures { λ r. ⌜ LevelledOn (now (lows .entry)) (now (highs .entry)) (now (table .entry)) total r ⌝ }
+{
+    let count = lows.len();
+    let k = last_within(table, 2 * count, 0, 0, 0, total, count);
+    let row = read_row(table, k);
+    let left = total - pinned_total(row, 0, 0, 0);
+    let reach = reach_from(row, 0, 0, left);
+    Levelled {
+        row: k,
+        level: reach.level,
+        over: reach.over,
+    }
+}
+
+// Whether the group has a plan, from the row below its level.
+pub fn has_plan(
+    lows: &[u64],
+    highs: &[u64],
+    table: &[u64],
+    row: usize,
+    total: u64,
+    limits: Limits,
+) -> bool
+    requires { ⌜ Sound (now lows) (now highs) total ⌝ }
+    requires { ⌜ Table (now lows) (now highs) total (now table) ⌝ }
+    requires { ⌜ InReach (now table) (2 * length (now lows)) 0 0 0 total ⌝ }
+    requires { ⌜ Found (now table) (2 * length (now lows)) 0 0 0 total row ⌝ }
     ensures { λ r. ⌜ r ≡ hasPlan (now (lows .entry)) (now (highs .entry)) total limits ⌝ }
 {
-    decide(lows, highs, table, 0, 0, 0, total, limits)
+    met_at(lows, highs, table, row, 0, 0, 0, total, limits)
 }

@@ -5,39 +5,32 @@ use mathlib.Core.List.{List}
 use mathlib.Core.Path.{_≡_, refl, sym, _∙_}
 use Prim.Native.Nat.{ℕ, _+_, _-_, _≤_, min}
 use lib.ListN.{length, getD}
-use Rattle.model.specs.Levels.{clamp, growth, topped, levelled}
+use Rattle.model.specs.Levels.{topped}
 use Rattle.model.specs.Plans.{narrowedLow, narrowedHigh, narrowedLows, narrowedHighs}
 use Rattle.model.specs.Laws.Lists.{ranges-at}
 use Rattle.model.specs.Laws.Narrowing.{narrowedLows-length, narrowedHighs-length, narrowedLows-at, narrowedHighs-at}
 use Rattle.model.specs.Laws.Walk.{Ahead, ahead-share, ahead-step}
-use Rattle.group.specs.Sound.{levelled-is}
 use Rattle.group.specs.Bounds.{share-at-small}
-use Rattle.group.specs.Tabled.{Filled, plan-shares, filled-none, filled-next, filled-all}
+use Rattle.group.specs.Tabled.{Filled, filled-none, filled-next, filled-all}
 use Rattle.group.specs.Edges.{Planned}
 use Rattle.group.specs.Ends.{levelled-planned, to-low, to-high, low-reached, high-reached}
 use Rattle.group.proofs.ranges.narrow_members.Statement.{statement}
 use Rattle.group.proofs.ranges.narrow_members.Tie as tie
 
 abbrev Inv-loop : tie.InvT-loop
-Inv-loop lows highs table total limits starts₀ stops₀ v left₀ i₀ starts stops left i =
+Inv-loop lows highs table total limits starts₀ stops₀ row v left₀ i₀ starts stops left i =
     (i ≤ length lows)
     × Filled (length lows) (narrowedLow lows highs total limits) i starts
     × Filled (length lows) (narrowedHigh lows highs total limits) i stops
     × Ahead lows highs v left₀ left i
 
 abbrev μ-loop : tie.MeasureT-loop
-μ-loop lows highs table total limits starts₀ stops₀ v left₀ i₀ starts stops left i = length lows - i
-
-level-at-requires : tie.Need-level-at-requires Inv-loop μ-loop
-level-at-requires c κs = plan-shares (c .before .before .before .before .before .pre .0)
-
-remainder-at-requires : tie.Need-remainder-at-requires Inv-loop μ-loop
-remainder-at-requires c κs = (plan-shares (c .before .before .before .before .before .before .pre .0), c .level-at .ensures)
+μ-loop lows highs table total limits starts₀ stops₀ row v left₀ i₀ starts stops left i = length lows - i
 
 loop-holds : tie.Need-loop-holds Inv-loop μ-loop
 loop-holds c =
-    let s = c .before .before .before .before .before .before .before in
-    (search needs, filled-none (s .pre .1 .1 .0), filled-none (s .pre .1 .1 .1), refl)
+    let s = c .before .before .before .before .before in
+    (search needs, filled-none (s .pre .1 .1 .1 .0), filled-none (s .pre .1 .1 .1 .1), refl)
 
 mul-low : tie.Need-mul-low Inv-loop μ-loop
 mul-low c = search needs
@@ -56,7 +49,7 @@ extra-requires c κs = search needs
 
 clamp-requires : tie.Need-clamp-requires Inv-loop μ-loop
 clamp-requires c κs =
-    let s = c .before .before .before .before .before .before .before .before .before .before .before .before in
+    let s = c .before .before .before .before .before .before .before .before .before .before in
     ranges-at (s .pre .0 .sound .ranges) (c .before .before .before .before .loop .i) (omega arith) .0
 
 -- the start, the loop's turn and the member's share, seen from the share on
@@ -64,11 +57,8 @@ module _ (c : tie.After-clamp Inv-loop μ-loop) where
   abbrev turn : tie.At-loop Inv-loop μ-loop
   turn = c .before .before .before .before .before
 
-  abbrev opened : tie.After-remainder-at Inv-loop μ-loop
-  opened = turn .before
-
   abbrev start : tie.Start Inv-loop μ-loop
-  start = opened .before .before .before .before .before .before .before
+  start = turn .before .before .before .before .before .before
 
   abbrev lows : List ℕ
   lows = start .args .lows .now
@@ -77,10 +67,10 @@ module _ (c : tie.After-clamp Inv-loop μ-loop) where
   highs = start .args .highs .now
 
   abbrev v : ℕ
-  v = opened .before .level-at .result
+  v = start .args .levelled .level
 
   abbrev left : ℕ
-  left = opened .remainder-at .result
+  left = start .args .levelled .over
 
   abbrev i : ℕ
   i = turn .loop .i
@@ -91,16 +81,12 @@ module _ (c : tie.After-clamp Inv-loop μ-loop) where
   abbrev share : ℕ
   share = c .clamp .result + more
 
-  -- the share is the levelled one
-  is-levelled : share ≡ getD (levelled lows highs (start .args .total)) i 0
-  is-levelled =
-      let levelled-here : topped lows highs v left ≡ levelled lows highs (start .args .total) =
-      levelled-is lows highs (start .args .total) v left (opened .before .level-at .ensures) (opened .remainder-at .ensures) in
-      rw (← levelled-here) (sym (ahead-share lows highs i (omega arith) (omega arith) v left (turn .loop .left) (c .clamp .result) more (c .clamp .ensures) (c .before .extra .ensures) (turn .loop .inv .3)))
+  -- the share is the one at the level, which some plan gives the member
+  is-share : share ≡ getD (topped lows highs v left) i 0
+  is-share = sym (ahead-share lows highs i (omega arith) (omega arith) v left (turn .loop .left) (c .clamp .result) more (c .clamp .ensures) (c .before .extra .ensures) (turn .loop .inv .3))
 
-  -- which some plan gives the member
   planned : Planned lows highs (start .args .total) (start .args .limits) i share
-  planned = rw is-levelled (levelled-planned (start .pre .0) i (omega arith))
+  planned = rw is-share (levelled-planned (start .pre .0) (start .pre .1 .1 .0 .reached) i (omega arith))
 
   next : Ahead lows highs v left (turn .loop .left - more) (i + 1)
   next = ahead-step lows highs i (omega arith) (omega arith) v left (turn .loop .left) (c .clamp .result) more (c .clamp .ensures) (c .before .extra .ensures) (turn .loop .inv .3)
@@ -145,10 +131,10 @@ loop-again c =
     )
 
 same-length : tie.Need-same-length Inv-loop μ-loop
-same-length c = c .before .loop .inv .1 .size ∙ sym (c .before .before .before .before .before .before .before .before .before .pre .1 .1 .0)
+same-length c = c .before .loop .inv .1 .size ∙ sym (c .before .before .before .before .before .before .before .pre .1 .1 .1 .0)
 
 same-length-2 : tie.Need-same-length-2 Inv-loop μ-loop
-same-length-2 c = c .before .loop .inv .2 .size ∙ sym (c .before .before .before .before .before .before .before .before .before .pre .1 .1 .1)
+same-length-2 c = c .before .loop .inv .2 .size ∙ sym (c .before .before .before .before .before .before .before .pre .1 .1 .1 .1)
 
 returns : tie.Need-returns Inv-loop μ-loop
 returns c =
@@ -163,8 +149,6 @@ narrow-members-spec =
     (tie.spec
     Inv-loop
     μ-loop
-    level-at-requires
-    remainder-at-requires
     loop-holds
     mul-low
     shared-slice-read-low

@@ -1,9 +1,12 @@
 -- The group with member i pinned to v has v's part in place of the member's own. Assumes nothing.
 use borrow.Author.Needs.{needs}
 use mathlib.Core.List.{List}
+use mathlib.Core.Path.{sym, _∙_}
 use Prim.Native.Nat.{ℕ}
 use lib.ListN.{getD, set}
 use Rattle.probe.specs.Pins.{Pin, pinned}
+use Rattle.probe.specs.Probes.{probeable}
+use Rattle.probe.specs.Verdicts.{decided}
 use Rattle.probe.proofs.probing.probe.Statement.{statement}
 use Rattle.probe.proofs.probing.probe.Tie as tie
 
@@ -16,35 +19,48 @@ module _ (s : tie.Start) where
   highs = s .args .highs .now
 
   pinned-there : Pin lows highs (getD lows (s .args .i) 0) (getD highs (s .args .i) 0) (s .args .v) (set lows (s .args .i) (s .args .v)) (set highs (s .args .i) (s .args .v))
-  pinned-there = pinned (s .pre .0 .ranges) (s .args .i) (s .args .v) (s .pre .1 .1 .0) (s .pre .1 .1 .1)
+  pinned-there = pinned (s .pre .0 .ranges) (s .args .i) (s .args .v) (s .pre .1 .1 .0) (s .pre .1 .1 .1 .0)
 
-mul-decide : tie.Need-mul-decide
-mul-decide c = search needs
+mul-low : tie.Need-mul-low
+mul-low c = search needs
 
-shared-slice-read-decide : tie.Need-shared-slice-read-decide
-shared-slice-read-decide c = search needs
+shared-slice-read-low : tie.Need-shared-slice-read-low
+shared-slice-read-low c = search needs
 
-mul-decide-2 : tie.Need-mul-decide-2
-mul-decide-2 c = search needs
+mul-high : tie.Need-mul-high
+mul-high c = search needs
 
-shared-slice-read-decide-2 : tie.Need-shared-slice-read-decide-2
-shared-slice-read-decide-2 c = search needs
+shared-slice-read-high : tie.Need-shared-slice-read-high
+shared-slice-read-high c = search needs
 
-decide-requires : tie.Need-decide-requires
-decide-requires c κs =
+mul-last-within : tie.Need-mul-last-within
+mul-last-within c = search needs
+
+last-within-requires : tie.Need-last-within-requires
+last-within-requires c κs =
     let s = c .before .before .before .before .before in
-    (s .pre .0, (s .pre .1 .0, record { pinnedLows = set (lows s) (s .args .i) (s .args .v); pinnedHighs = set (highs s) (s .args .i) (s .args .v); pin = pinned-there s }))
+    (probeable (s .pre .0) (s .pre .1 .0) (pinned-there s), s .pre .1 .1 .1 .1 .least)
+
+met-at-requires : tie.Need-met-at-requires
+met-at-requires c κs =
+    let s = c .before .before .before .before .before .before in
+    (s .pre .0, (s .pre .1 .0, (record { pinnedLows = set (lows s) (s .args .i) (s .args .v); pinnedHighs = set (highs s) (s .args .i) (s .args .v); pin = pinned-there s }, (c .last-within .ensures, s .pre .1 .1 .1 .1 .greatest))))
 
 returns : tie.Need-returns
-returns c = c .decide .ensures .is (pinned-there (c .before .before .before .before .before .before))
+returns c =
+    let s = c .before .before .before .before .before .before .before in
+    c .met-at .ensures .is (pinned-there s)
+    ∙ sym (decided (s .pre .0) (pinned-there s) (s .pre .1 .0) (s .args .limits) (s .pre .1 .1 .1 .1 .least) (s .pre .1 .1 .1 .1 .greatest))
 
 pub probe-spec : {M : Type 1} → statement M
 probe-spec =
     tie.close
     (tie.spec
-    mul-decide
-    shared-slice-read-decide
-    mul-decide-2
-    shared-slice-read-decide-2
-    decide-requires
+    mul-low
+    shared-slice-read-low
+    mul-high
+    shared-slice-read-high
+    mul-last-within
+    last-within-requires
+    met-at-requires
     returns)
