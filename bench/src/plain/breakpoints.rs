@@ -5,7 +5,7 @@ use danivomel_tests::answers::{Deviation, Limits, Spread};
 use danivomel_tests::independent::level::{clamp, deviation_part};
 
 /// Sums over the shares at one level.
-#[derive(Clone, Copy)]
+#[derive(Clone, Copy, Default)]
 pub struct Sums {
     pub total: u64,
     deviation: u64,
@@ -13,7 +13,7 @@ pub struct Sums {
 }
 
 /// A bound, the sums where every member takes it moved into its range, and how many members grow there.
-#[derive(Clone, Copy)]
+#[derive(Clone, Copy, Default)]
 pub struct Row {
     level: u64,
     growing: u64,
@@ -28,33 +28,54 @@ pub struct Member {
     pub share: u64,
 }
 
+/// Room for the sorted bounds of N members and their R rows, which are at most 2 N.
+pub struct Room<const N: usize, const R: usize> {
+    starts: [u64; N],
+    ends: [u64; N],
+    rows: [Row; R],
+}
+
+impl<const N: usize, const R: usize> Room<N, R> {
+    pub fn new() -> Room<N, R> {
+        Room { starts: [0; N], ends: [0; N], rows: [Row::default(); R] }
+    }
+}
+
 /// A group's rows, rising, the row of its levelled shares, and what its figures need.
-pub struct Table {
-    pub rows: Vec<Row>,
+pub struct Table<'a> {
+    pub rows: &'a [Row],
     pub near: usize,
     pub total: u64,
     n: u64,
     limits: Limits,
 }
 
-impl Table {
+impl<'a> Table<'a> {
     /// The table of a group that has shares: a walk upward over its bounds.
-    pub fn of(lows: &[u64], highs: &[u64], total: u64, limits: Limits) -> Table {
-        let (mut starts, mut ends) = (lows.to_vec(), highs.to_vec());
+    pub fn of<const N: usize, const R: usize>(
+        lows: &[u64],
+        highs: &[u64],
+        total: u64,
+        limits: Limits,
+        room: &'a mut Room<N, R>,
+    ) -> Table<'a> {
+        let (starts, ends) = (&mut room.starts[..lows.len()], &mut room.ends[..lows.len()]);
+        starts.copy_from_slice(lows);
+        ends.copy_from_slice(highs);
         starts.sort_unstable();
         ends.sort_unstable();
-        let rows = Vec::with_capacity(2 * lows.len());
-        let mut table = Table { rows, near: 0, total, n: lows.len() as u64, limits };
-        let mut sums = Sums { total: 0, deviation: 0, squares: 0 };
+        let mut table = Table { rows: &[], near: 0, total, n: lows.len() as u64, limits };
+        let mut sums = Sums::default();
         for &low in lows {
             sums = table.with(sums, 1, low);
         }
-        let (mut started, mut ended, mut level) = (0, 0, starts[0]);
+        let (mut started, mut ended, mut level, mut count) = (0, 0, starts[0], 0);
         loop {
             started += starts[started..].iter().take_while(|&&start| start <= level).count();
             ended += ends[ended..].iter().take_while(|&&end| end <= level).count();
             let growing = (started - ended) as u64;
-            table.rows.push(Row { level, growing, sums });
+            room.rows[count] = Row { level, growing, sums };
+            count += 1;
             if ended == ends.len() {
                 break;
             }
@@ -62,6 +83,7 @@ impl Table {
             sums = table.with(table.without(sums, growing, level), growing, next);
             level = next;
         }
+        table.rows = &room.rows[..count];
         table.near = table.rows.partition_point(|row| row.sums.total <= total) - 1;
         table
     }
@@ -111,6 +133,14 @@ impl Table {
     /// The total of a row without one member.
     pub fn rest(&self, row: &Row, member: Member) -> u64 {
         row.sums.total - clamp(member.low, member.high, row.level)
+    }
+
+    /// A value moved to where the other members can make up for it.
+    pub fn into_reach(&self, member: Member, value: u64) -> u64 {
+        let (first, last) = (&self.rows[0], &self.rows[self.rows.len() - 1]);
+        let least = self.total.saturating_sub(self.rest(last, member));
+        let greatest = self.total - self.rest(first, member);
+        value.max(least).min(greatest)
     }
 
     /// A row without one member.

@@ -5,7 +5,7 @@ mod breakpoints;
 mod probes;
 mod rows;
 
-use breakpoints::{Member, Table};
+use breakpoints::{Member, Room, Table};
 use danivomel_tests::answers::{Limits, Refusal, Unsettled};
 use danivomel_tests::independent::level::{clamp, has_shares};
 use danivomel_tests::independent::narrow::check_lists;
@@ -48,7 +48,8 @@ fn members_by_rows(lows: &mut [u64], highs: &mut [u64], total: u64, limits: Limi
     narrow_members(lows, highs, total, limits, rows::ends)
 }
 
-/// Narrows ranges that were checked; answers 11 or 12 where there is no plan, and then changes nothing.
+/// Narrows ranges that were checked; answers 11 or 12 where there is no plan, and then changes nothing. Few members get
+/// little room, which is sooner cleared.
 fn narrow_members(
     lows: &mut [u64],
     highs: &mut [u64],
@@ -59,7 +60,23 @@ fn narrow_members(
     if !has_shares(lows, highs, total) {
         return Err(11);
     }
-    let table = Table::of(lows, highs, total, limits);
+    if lows.len() <= 16 {
+        narrow_within(lows, highs, total, limits, ends, &mut Room::<16, 32>::new())
+    } else {
+        narrow_within(lows, highs, total, limits, ends, &mut Room::<256, 512>::new())
+    }
+}
+
+/// Narrows a group that has shares.
+fn narrow_within<const N: usize, const R: usize>(
+    lows: &mut [u64],
+    highs: &mut [u64],
+    total: u64,
+    limits: Limits,
+    ends: impl Fn(&Table, Member) -> (u64, u64),
+    room: &mut Room<N, R>,
+) -> Result<(), u64> {
+    let table = Table::of(lows, highs, total, limits, room);
     let (level, mut left) = table.levelled().ok_or(12u64)?;
     for (low, high) in lows.iter_mut().zip(highs.iter_mut()) {
         let more = u64::from(left > 0 && *low <= level && level < *high);
