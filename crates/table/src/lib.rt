@@ -12,6 +12,7 @@ ghost use Rattle.works.specs.Calls.{settlement, settleText};
 ghost use Rattle.table.specs.Tables.{lowsOf, highsOf, boundsOf, over, ranges, afterSettling, afterReporting, bufferAfter, afterReading};
 
 // The range of a unit.
+#[repr(C)]
 pub struct Range {
     pub low: u64,
     pub high: u64,
