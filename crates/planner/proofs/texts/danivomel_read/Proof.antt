@@ -12,7 +12,7 @@ use contract.Lifetimes.{Lfts}
 use contract.Monad.{Fun, factI}
 use contract.Running.{givenOf}
 use types.Kit.{Given, raw, _$_, _∵_, !, qed, move, join, use1, done}
-use types.Run.{look, init, stop, from, load, and-then, no-more, returns, enter, alloc1, alloc0, params1, pass1, pass0, free0}
+use types.Run.{look, no-more, returns, enter, alloc1, alloc0, params1, pass0, free0}
 use denote.Builtin.{u8}
 use denote.Laws.{Spells}
 use denote.Enum.Laws as EL
@@ -35,7 +35,7 @@ use Rattle.job.proofs.Reading as S
 use Rattle.job.proofs.Reading.Laws as S′
 use Rattle.planner.proofs.ForeignRead as F
 use Rattle.planner.proofs.ForeignRead.Laws as F′
-use Rattle.planner.proofs.Crossing.{follows, and-says, Turns, crosses, in-order, frees-cell, spelled, Walk, met-by}
+use Rattle.planner.proofs.Crossing.{follows, and-says, Turns, takes-slice, and-local, crosses, in-order, frees-cell, spelled, Walk, met-by}
 use Rattle.table.proofs.read as read
 use Rattle.table.proofs.read.Symbol.{name as #table·read}
 use Rattle.table.proofs.read.Met as read-thm
@@ -68,13 +68,13 @@ module _ {M : Type 1} (𝓤 : URA M) (H : Heap 𝓤) (A : Atoms 𝓤) (mem : Mem
       let vss : Vals here.signature κs = spelled 𝓤 H A here.signature (here.spec 𝓤 H A mem run) at κs a in
       qed W (raw (onEntry 𝓤 H A here.signature κs qs a vss) ∷ []) ∵ enter ! C Λ code.function _ _ $
       alloc1 ! (λ l₀. alloc1 ! (λ l₁. alloc1 ! (λ l₂. alloc1 ! (λ l₃. alloc1 ! (λ l₄. alloc1 ! (λ l₅. alloc0 ! $
-      params1 ! $ pass1 ! (init ! 8 refl (tt, (tt, (record { fits = are .0 .0 .1 .0 }, tt)))) $ pass1 ! (init ! 6 refl (tt, (tt, (record { fits = are .1 .0 .0 .1 .0 }, tt)))) $ pass0 ! $
+      params1 ! $ takes-slice ! 8 refl (are .0 .0 .1 .0) $ takes-slice ! 6 refl (are .1 .0 .0 .1 .0) $ pass0 ! $
       passes-on ! 6 2 0 refl refl refl refl refl refl refl refl (are .1 .0 .0 .1 .0) $
       -- all that was handed in goes to table::read, and its answer to reading_out
       nothing ! $ move ! (13 ∷ 0 ∷ []) $ join ! $ use1 W (raw (On .pre ((κs, qs, bounds, a, vss), g))) (id⊢ 𝓤 _) $
       crosses ! fm S.the-row F.the-row foreignRead (alive 𝓤 H A here.signature κs qs) (read.spec 𝓤 H A mem run κs a .ensures tt) (here.spec 𝓤 H A mem run κs a .ensures tt) (turned κs a)
       (λ r u is. EL.lawful S.the-type S′.the-laws 𝓤 H A W tt .typed r (u ∷ []) is .0) (λ d w is. LL.lawful F.the-type F′.the-laws 𝓤 H A W .typed d (w ∷ []) is .0) _ _ (known ((κs, qs, bounds, a, vss), g)) known-out
-      4 10 refl refl refl (λ u. refl) (λ u. refl) (and-then ! (load ! (from ! (stop !)) (look ! 9 refl)) (and-then ! (load ! (from ! (stop !)) (look ! 1 refl)) (no-more !))) (λ u w.
+      4 10 refl refl refl (λ u. refl) (λ u. refl) (and-local ! 9 refl (and-local ! 1 refl (no-more !))) (λ u w.
       returns ! (look ! 11 refl) $ move ! (in-order 6) $ frees-cell ! $ frees-cell ! $ frees-cell ! $ frees-cell ! $ frees-cell ! $ frees-cell ! $ free0 ! $ done !)))))))
 
 pub danivomel-read-spec : {M : Type 1} → stated.statement M

@@ -13,7 +13,7 @@ use contract.Lifetimes.{Lfts}
 use contract.Monad.{Fun, factI}
 use contract.Running.{givenOf}
 use types.Kit.{Given, raw, _$_, _∵_, !, qed, move, join, use1, done}
-use types.Run.{look, init, stop, from, load, and-then, no-more, returns, enter, alloc1, alloc0, params1, pass1, pass0, free0}
+use types.Run.{look, no-more, returns, enter, alloc1, alloc0, params1, pass0, free0}
 use denote.Builtin.{u8, u64}
 use denote.Laws.{Spells}
 use denote.Enum.Laws as EL
@@ -36,7 +36,7 @@ use Rattle.works.proofs.Settling as S
 use Rattle.works.proofs.Settling.Laws as S′
 use Rattle.planner.proofs.ForeignSettled as F
 use Rattle.planner.proofs.ForeignSettled.Laws as F′
-use Rattle.planner.proofs.Crossing.{follows, and-says, Turns, crosses, in-order, frees-cell, spelled, Walk, met-by}
+use Rattle.planner.proofs.Crossing.{follows, and-says, Turns, takes-slice, and-local, crosses, in-order, frees-cell, spelled, Walk, met-by}
 use Rattle.table.proofs.settle as settle
 use Rattle.table.proofs.settle.Symbol.{name as #table·settle}
 use Rattle.table.proofs.settle.Met as settle-thm
@@ -69,13 +69,13 @@ module _ {M : Type 1} (𝓤 : URA M) (H : Heap 𝓤) (A : Atoms 𝓤) (mem : Mem
       let vss : Vals here.signature κs = spelled 𝓤 H A here.signature (here.spec 𝓤 H A mem run) at κs a in
       qed W (raw (onEntry 𝓤 H A here.signature κs qs a vss) ∷ []) ∵ enter ! C Λ code.function _ _ $
       alloc1 ! (λ l₀. alloc1 ! (λ l₁. alloc1 ! (λ l₂. alloc1 ! (λ l₃. alloc1 ! (λ l₄. alloc1 ! (λ l₅. alloc1 ! (λ l₆. alloc1 ! (λ l₇. alloc1 ! (λ l₈. alloc0 ! $
-      params1 ! $ pass1 ! (init ! 14 refl (tt, (tt, (record { fits = are .0 .0 .1 .0 }, tt)))) $ pass1 ! (init ! 12 refl (tt, (tt, (record { fits = are .1 .0 .0 .1 .0 }, tt)))) $ pass1 ! (init ! 10 refl (tt, (tt, (record { fits = are .1 .1 .0 .0 .1 .0 }, tt)))) $ pass0 ! $
+      params1 ! $ takes-slice ! 14 refl (are .0 .0 .1 .0) $ takes-slice ! 12 refl (are .1 .0 .0 .1 .0) $ takes-slice ! 10 refl (are .1 .1 .0 .0 .1 .0) $ pass0 ! $
       passes-on ! 12 6 4 refl refl refl refl refl refl refl refl (are .1 .0 .0 .1 .0) $ passes-on ! 10 2 0 refl refl refl refl refl refl refl refl (are .1 .1 .0 .0 .1 .0) $
       -- all that was handed in goes to table::settle, and its answer to settling_out
       nothing ! $ move ! (19 ∷ 0 ∷ []) $ join ! $ use1 W (raw (On .pre ((κs, qs, bounds, a, vss), g))) (id⊢ 𝓤 _) $
       crosses ! fm S.the-row F.the-row foreignSettled (alive 𝓤 H A here.signature κs qs) (settle.spec 𝓤 H A mem run κs a .ensures tt) (here.spec 𝓤 H A mem run κs a .ensures tt) (turned κs a)
       (λ r u is. EL.lawful S.the-type S′.the-laws 𝓤 H A W tt .typed r (u ∷ []) is .0) (λ d w is. LL.lawful F.the-type F′.the-laws 𝓤 H A W .typed d (w ∷ []) is .0) _ _ (known ((κs, qs, bounds, a, vss), g)) known-out
-      8 16 refl refl refl (λ u. refl) (λ u. refl) (and-then ! (load ! (from ! (stop !)) (look ! 15 refl)) (and-then ! (load ! (from ! (stop !)) (look ! 5 refl)) (and-then ! (load ! (from ! (stop !)) (look ! 1 refl)) (no-more !)))) (λ u w.
+      8 16 refl refl refl (λ u. refl) (λ u. refl) (and-local ! 15 refl (and-local ! 5 refl (and-local ! 1 refl (no-more !)))) (λ u w.
       returns ! (look ! 17 refl) $ move ! (in-order 9) $ frees-cell ! $ frees-cell ! $ frees-cell ! $ frees-cell ! $ frees-cell ! $ frees-cell ! $ frees-cell ! $ frees-cell ! $ frees-cell ! $ free0 ! $ done !))))))))))
 
 pub danivomel-settle-spec : {M : Type 1} → stated.statement M
