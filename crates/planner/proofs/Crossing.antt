@@ -57,14 +57,14 @@ module _ {M : Type 1} (𝓤 : URA M) (H : Heap 𝓤) (A : Atoms 𝓤) where
     abbrev pub Turns : Contract 𝓤
     Turns = tripleOf 𝓤 H A turning (λ κs a. record { ghost = Unit {0}; requires = λ _. emp 𝓤; ensures = λ _ d. exits 𝓤 H A turning (yes, tt) κs a (λ _. fact 𝓤 (d ≡ f (a .0))) })
 
-    abbrev pub to-turn : S .Denot → Val → Turns .Ghost
+    abbrev to-turn : S .Denot → Val → Turns .Ghost
     to-turn r u = ((tt, tt, tt, (r, tt), (u ∷ [], tt)), tt)
 
-    pub goes-turn : (W : Given 𝓤 H A) (r : S .Denot) (u : Val) → ent 𝓤 (sem 𝓤 H A (S .own r (u ∷ []))) (Turns .pre (to-turn r u))
+    goes-turn : (W : Given 𝓤 H A) (r : S .Denot) (u : Val) → ent 𝓤 (sem 𝓤 H A (S .own r (u ∷ []))) (Turns .pre (to-turn r u))
     goes-turn W r u = qed W (‵ (S .own r (u ∷ [])) ∷ []) ∵ nothing ! $ move ! (1 ∷ 0 ∷ []) $ fjoin ! $ nothing ! $ join ! $ nothing ! $ move ! (1 ∷ 0 ∷ []) $ done !
 
   -- what is had once an answer has come: the tokens, the answer's value, and what is ensured of it
-  abbrev pub Answered : (R : RattleType) → SProp 𝓤 → (R .Denot → SProp 𝓤) → Val → SProp 𝓤
+  abbrev Answered : (R : RattleType) → SProp 𝓤 → (R .Denot → SProp 𝓤) → Val → SProp 𝓤
   Answered R L X u = H .⇛ (ex 𝓤 (λ (r : R .Denot). sep 𝓤 (sep 𝓤 L (sem 𝓤 H A (R .own r (u ∷ [])))) (X r)))
 
 -- ---- slices as parameters, and locals as operands
