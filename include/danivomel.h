@@ -1,12 +1,13 @@
 /*
  * Danivomel: even shares of a total over the units of a group, by proved code. Link with libplanner.a.
  *
- * A list is a pointer and a count. Every pointer must be valid for its count of items, aligned and not null, also
- * where the count is 0; a list that a call writes must overlap no other list of the call. Nothing else is asked: any
- * counts and any numbers are taken, and what the specification does not allow is refused.
+ * A list is a pointer and a count, and so is a table, a list of ranges. Every pointer must be valid for its count of
+ * items, aligned and not null, also where the count is 0; a list that a call writes must overlap no other list of the
+ * call. Nothing else is asked: any counts and any numbers are taken, and what the specification does not allow is
+ * refused.
  *
- * A refusal changes no list. Past what a call writes, lists keep their values. The calls use no heap and no global
- * state, so they can run on several threads at once.
+ * A refusal changes no list but the scratch. Past what a call writes, lists keep their values. The calls use no heap
+ * and no global state, so they can run on several threads at once.
  */
 #ifndef DANIVOMEL_H
 #define DANIVOMEL_H
@@ -96,6 +97,12 @@ danivomel_refusal danivomel_narrow(
     uint64_t total,
     danivomel_limits limits);
 
+/* The range of a unit: an entry of a table. Unit 1 is the table's first entry. */
+typedef struct {
+    uint64_t low;
+    uint64_t high;
+} danivomel_range;
+
 /* What reading a job text answers. On a refusal both counts are 0. */
 typedef struct {
     danivomel_refusal refusal;
@@ -104,14 +111,13 @@ typedef struct {
 } danivomel_counts;
 
 /*
- * Reads a job text into a table: afterwards lows and highs begin with the ranges of the unit lines.
- * Refuses, in this order: 2; the first bad line with the lowest of 3 to 9; 10; 1 for lows or highs shorter than the
- * units.
+ * Reads a job text into a table: afterwards the table begins with the ranges of the unit lines, and entries past the
+ * units keep their values.
+ * Refuses, in this order: 2; the first bad line with the lowest of 3 to 9; 10; 1 for a table too short for the units.
  */
 danivomel_counts danivomel_read(
     const uint8_t *text, size_t text_count,
-    uint64_t *lows, size_t lows_count,
-    uint64_t *highs, size_t highs_count);
+    danivomel_range *table, size_t table_count);
 
 /* What settling answers: the passes, the quiet or refusing one counted; 0 where it is refused ahead of the first. */
 typedef struct {
@@ -120,16 +126,16 @@ typedef struct {
 } danivomel_settled;
 
 /*
- * Settles a table under the groups of a job text: opens with the ranges that lows and highs hold, and leaves the
- * greatest ranges inside them in which each value is taken, in each of its unit's groups, by a plan drawn from them.
+ * Settles a table under the groups of a job text: opens with the ranges that the table holds, and leaves the greatest
+ * ranges inside them in which each value is taken, in each of its unit's groups, by a plan drawn from them. Entries
+ * past the units keep their values.
  * The scratch has 8 numbers a unit; what it held changes nothing, and it holds anything afterwards.
- * Refuses, in this order: as reading up to 10; 1 for lows, highs or scratch too short for the units; 4, then 7 for the
+ * Refuses, in this order: as reading up to 10; 1 for a table or scratch too short for the units; 4, then 7 for the
  * ranges, place the first such unit; 11 and 12, place the group, where no such ranges exist.
  */
 danivomel_settled danivomel_settle(
     const uint8_t *text, size_t text_count,
-    uint64_t *lows, size_t lows_count,
-    uint64_t *highs, size_t highs_count,
+    danivomel_range *table, size_t table_count,
     uint64_t *scratch, size_t scratch_count);
 
 /* What reporting answers: the report's length, or a refusal, with the passes for 11 and 12. */
@@ -145,8 +151,7 @@ typedef struct {
  */
 danivomel_reported danivomel_report(
     const uint8_t *text, size_t text_count,
-    uint64_t *lows, size_t lows_count,
-    uint64_t *highs, size_t highs_count,
+    danivomel_range *table, size_t table_count,
     uint64_t *scratch, size_t scratch_count,
     uint8_t *buffer, size_t buffer_count);
 

@@ -1,7 +1,8 @@
-/* A program in C over the planner's archive: one known share and one refusal, and the layout of what crosses. */
+/* A program in C over the planner's archive: known shares, ranges and a job, and the layout of what crosses. */
 #include "danivomel.h"
 
 #include <stdio.h>
+#include <string.h>
 
 /* Prints what is not as it should be, and says so. */
 static int same(const char *what, uint64_t found, uint64_t expected) {
@@ -48,11 +49,52 @@ static int known_ranges(void) {
 }
 #endif
 
+#ifdef DANIVOMEL_REPORT
+/* The table's entries. */
+static int same_table(const danivomel_range *found, const danivomel_range *expected, int count) {
+    int faults = 0;
+    for (int i = 0; i < count; i++) {
+        faults += same("low", found[i].low, expected[i].low) + same("high", found[i].high, expected[i].high);
+    }
+    return faults;
+}
+
+/* The specification's worked job: read, settled and reported, with an entry past the units. */
+static int known_job(void) {
+    static uint8_t buffer[65536];
+    const char *text = "(unit 0 10)\n(unit 0 10)\n(unit 0 10)\n"
+                       "(group 10 (dev 4) (spread any) (of 1 2))\n(group 8 (dev any) (spread 4) (of 2 3))\n";
+    const char *report = "(settled 3)\n(unit 1 5 6)\n(unit 2 4 5)\n(unit 3 3 4)\n"
+                         "(group 1 5 0 0 (plan 5 5))\n(group 2 4 0 0 (plan 4 4))\n";
+    const danivomel_range spare = {99, 98};
+    const danivomel_range read[4] = {{0, 10}, {0, 10}, {0, 10}, {99, 98}};
+    const danivomel_range settled[4] = {{5, 6}, {4, 5}, {3, 4}, {99, 98}};
+    danivomel_range table[4] = {spare, spare, spare, spare};
+    uint64_t scratch[24];
+    const uint8_t *job = (const uint8_t *)text;
+    size_t length = strlen(text);
+    int faults = same("short table", danivomel_read(job, length, table, 2).refusal.number, DANIVOMEL_BAD_LISTS);
+    faults += same("low after a refusal", table[0].low, 99) + same("high after a refusal", table[0].high, 98);
+    danivomel_counts counts = danivomel_read(job, length, table, 4);
+    faults += same("units", counts.units, 3) + same("groups", counts.groups, 2) + same_table(table, read, 4);
+    faults += same("passes", danivomel_settle(job, length, table, 4, scratch, 24).passes, 3);
+    faults += same_table(table, settled, 4);
+    memcpy(table, read, sizeof table);
+    danivomel_reported written = danivomel_report(job, length, table, 4, scratch, 24, buffer, sizeof buffer);
+    faults += same("refusal", written.refusal.number, DANIVOMEL_DONE) + same_table(table, settled, 4);
+    faults += same("length", written.length, strlen(report));
+    return faults + same("report", memcmp(buffer, report, strlen(report)) == 0, 1);
+}
+#endif
+
 int main(void) {
     int faults = known_share();
 #ifdef DANIVOMEL_NARROW
     faults += known_ranges();
 #endif
-    printf("c: %s\n", faults == 0 ? "linked, known shares hold" : "FAILED");
+#ifdef DANIVOMEL_REPORT
+    faults += known_job();
+#endif
+    printf("c: %s\n", faults == 0 ? "linked, known answers hold" : "FAILED");
     return faults != 0;
 }

@@ -44,6 +44,26 @@ impl Limits {
     }
 }
 
+/// The range of a unit: an entry of a table.
+#[repr(C)]
+#[derive(Clone, Copy, Debug, PartialEq, Eq)]
+pub struct Range {
+    pub low: u64,
+    pub high: u64,
+}
+
+impl Range {
+    /// The table with these lows and highs.
+    pub fn table(lows: &[u64], highs: &[u64]) -> Vec<Range> {
+        lows.iter().zip(highs).map(|(&low, &high)| Range { low, high }).collect()
+    }
+
+    /// The lows and the highs of a table.
+    pub fn lists(table: &[Range]) -> (Vec<u64>, Vec<u64>) {
+        table.iter().map(|range| (range.low, range.high)).unzip()
+    }
+}
+
 /// A refusal: its number in the specification, and its place.
 #[repr(C)]
 #[derive(Clone, Copy, Debug, PartialEq, Eq)]
@@ -80,11 +100,11 @@ pub type Level = fn(&[u64], &[u64], u64, &mut [u64]) -> Result<Levelled, Refusal
 /// Narrows one group in place: lows, highs, total, limits.
 pub type Narrow = fn(&mut [u64], &mut [u64], u64, Limits) -> Result<(), Refusal>;
 
-/// Reads a job text into a table of lows and highs.
-pub type Read = fn(&[u8], &mut [u64], &mut [u64]) -> Result<Counts, Refusal>;
+/// Reads a job text into a table.
+pub type Read = fn(&[u8], &mut [Range]) -> Result<Counts, Refusal>;
 
-/// Settles the table (lows and highs) under the groups of a job text, with a scratch list; answers the passes.
-pub type Settle = fn(&[u8], &mut [u64], &mut [u64], &mut [u64]) -> Result<u64, Unsettled>;
+/// Settles the table under the groups of a job text, with a scratch list; answers the passes.
+pub type Settle = fn(&[u8], &mut [Range], &mut [u64]) -> Result<u64, Unsettled>;
 
 /// Settles likewise and writes the report into a buffer; answers the report's length.
-pub type Report = fn(&[u8], &mut [u64], &mut [u64], &mut [u64], &mut [u8]) -> Result<u64, Unsettled>;
+pub type Report = fn(&[u8], &mut [Range], &mut [u64], &mut [u8]) -> Result<u64, Unsettled>;

@@ -1,12 +1,12 @@
 //! The proved planner for Rust: safe calls over the functions of libplanner.a, which include/danivomel.h documents.
-//! Every call takes any lists and numbers, and refuses what the specification does not allow; a refusal changes no
-//! list.
+//! Every call takes any lists, tables and numbers, and refuses what the specification does not allow; a refusal changes
+//! no list and no table, the scratch aside. Past what a call writes, they keep their values.
 
-#[cfg(feature = "read")]
-use crate::answers::Counts;
-use crate::answers::{Deviation, Levelled, Refusal, Spread};
 #[cfg(feature = "settle")]
 use crate::answers::Unsettled;
+#[cfg(feature = "read")]
+use crate::answers::{Counts, Range};
+use crate::answers::{Deviation, Levelled, Refusal, Spread};
 #[cfg(feature = "narrow")]
 use crate::answers::{Limit, Limits};
 
@@ -83,23 +83,14 @@ extern "C" {
     ) -> Refusal;
 
     #[cfg(feature = "read")]
-    fn danivomel_read(
-        text: *const u8,
-        text_count: usize,
-        lows: *mut u64,
-        lows_count: usize,
-        highs: *mut u64,
-        highs_count: usize,
-    ) -> ForeignRead;
+    fn danivomel_read(text: *const u8, text_count: usize, table: *mut Range, table_count: usize) -> ForeignRead;
 
     #[cfg(feature = "settle")]
     fn danivomel_settle(
         text: *const u8,
         text_count: usize,
-        lows: *mut u64,
-        lows_count: usize,
-        highs: *mut u64,
-        highs_count: usize,
+        table: *mut Range,
+        table_count: usize,
         scratch: *mut u64,
         scratch_count: usize,
     ) -> ForeignSettled;
@@ -108,10 +99,8 @@ extern "C" {
     fn danivomel_report(
         text: *const u8,
         text_count: usize,
-        lows: *mut u64,
-        lows_count: usize,
-        highs: *mut u64,
-        highs_count: usize,
+        table: *mut Range,
+        table_count: usize,
         scratch: *mut u64,
         scratch_count: usize,
         buffer: *mut u8,
@@ -177,51 +166,50 @@ fn across(limit: Limit) -> ForeignLimit {
     }
 }
 
-/// Reads a job text into a table: lows and highs then begin with the ranges of the unit lines.
+/// Reads a job text into a table, which then begins with the ranges of the unit lines; entries past the units keep
+/// their values.
 ///
-/// Refuses 2 for a text over 65,536 bytes; 3 to 9 at the first bad line; 10 for no unit line; 1 for a table shorter
-/// than the units.
+/// Refuses 2 for a text over 65,536 bytes; 3 to 9 at the first bad line; 10 for no unit line; 1 for a table too short
+/// for the units.
 ///
 /// ```
-/// use danivomel_tests::planner::read;
-/// let (mut lows, mut highs) = ([9; 3], [9; 3]);
-/// let counts = read(b"(unit 0 5)\n(unit 1 4)\n", &mut lows, &mut highs).unwrap();
-/// assert_eq!((counts.units, lows, highs), (2, [0, 1, 9], [5, 4, 9]));
+/// use danivomel_tests::{answers::Range, planner::read};
+/// let mut table = [Range { low: 9, high: 9 }; 3];
+/// let counts = read(b"(unit 0 5)\n(unit 1 4)\n", &mut table).unwrap();
+/// let filled = [Range { low: 0, high: 5 }, Range { low: 1, high: 4 }, Range { low: 9, high: 9 }];
+/// assert_eq!((counts.units, table), (2, filled));
 /// ```
 #[cfg(feature = "read")]
-pub fn read(text: &[u8], lows: &mut [u64], highs: &mut [u64]) -> Result<Counts, Refusal> {
-    // SAFETY: each pointer and count is a slice's, and the slices do not overlap, since two are borrowed mutably.
-    let answer = unsafe {
-        danivomel_read(text.as_ptr(), text.len(), lows.as_mut_ptr(), lows.len(), highs.as_mut_ptr(), highs.len())
-    };
+pub fn read(text: &[u8], table: &mut [Range]) -> Result<Counts, Refusal> {
+    // SAFETY: each pointer and count is a slice's, no other slice overlaps the table, which is borrowed mutably, and a
+    // range is laid out as the archive's: both are repr(C).
+    let answer = unsafe { danivomel_read(text.as_ptr(), text.len(), table.as_mut_ptr(), table.len()) };
     accepted(answer.refusal)?;
     Ok(Counts { units: answer.units as u64, groups: answer.groups as u64 })
 }
 
-/// Settles a table under the groups of a job text: opens with the ranges that lows and highs hold, narrows them until
-/// nothing moves, and answers the passes. The scratch has 8 numbers a unit.
+/// Settles a table under the groups of a job text: opens with the ranges that it holds, narrows them until nothing
+/// moves, and answers the passes; entries past the units keep their values. The scratch has 8 numbers a unit.
 ///
 /// Refuses as reading does up to 10; 1 for a table or scratch too short for the units; 4, then 7 for the ranges; 11 and
 /// 12 where no table inside the opening one is at rest.
 ///
 /// ```
-/// use danivomel_tests::planner::settle;
+/// use danivomel_tests::{answers::Range, planner::settle};
 /// let job = b"(unit 0 10)\n(unit 0 10)\n(group 10 (dev 4) (spread any) (of 1 2))\n";
-/// let (mut lows, mut highs) = ([0, 0], [10, 10]);
-/// assert_eq!(settle(job, &mut lows, &mut highs, &mut [0; 16]), Ok(2));
-/// assert_eq!((lows, highs), ([4, 4], [6, 6]));
+/// let mut table = [Range { low: 0, high: 10 }; 2];
+/// assert_eq!(settle(job, &mut table, &mut [0; 16]), Ok(2));
+/// assert_eq!(table, [Range { low: 4, high: 6 }; 2]);
 /// ```
 #[cfg(feature = "settle")]
-pub fn settle(text: &[u8], lows: &mut [u64], highs: &mut [u64], scratch: &mut [u64]) -> Result<u64, Unsettled> {
-    // SAFETY: each pointer and count is a slice's, and the slices do not overlap, since three are borrowed mutably.
+pub fn settle(text: &[u8], table: &mut [Range], scratch: &mut [u64]) -> Result<u64, Unsettled> {
+    // SAFETY: as for reading, and the slices do not overlap, since two are borrowed mutably.
     let answer = unsafe {
         danivomel_settle(
             text.as_ptr(),
             text.len(),
-            lows.as_mut_ptr(),
-            lows.len(),
-            highs.as_mut_ptr(),
-            highs.len(),
+            table.as_mut_ptr(),
+            table.len(),
             scratch.as_mut_ptr(),
             scratch.len(),
         )
@@ -234,22 +222,14 @@ pub fn settle(text: &[u8], lows: &mut [u64], highs: &mut [u64], scratch: &mut [u
 ///
 /// Refuses 1 for a buffer under 65,536 bytes first, then as settling.
 #[cfg(feature = "report")]
-pub fn report(
-    text: &[u8],
-    lows: &mut [u64],
-    highs: &mut [u64],
-    scratch: &mut [u64],
-    buffer: &mut [u8],
-) -> Result<u64, Unsettled> {
-    // SAFETY: each pointer and count is a slice's, and the slices do not overlap, since four are borrowed mutably.
+pub fn report(text: &[u8], table: &mut [Range], scratch: &mut [u64], buffer: &mut [u8]) -> Result<u64, Unsettled> {
+    // SAFETY: as for reading, and the slices do not overlap, since three are borrowed mutably.
     let answer = unsafe {
         danivomel_report(
             text.as_ptr(),
             text.len(),
-            lows.as_mut_ptr(),
-            lows.len(),
-            highs.as_mut_ptr(),
-            highs.len(),
+            table.as_mut_ptr(),
+            table.len(),
             scratch.as_mut_ptr(),
             scratch.len(),
             buffer.as_mut_ptr(),

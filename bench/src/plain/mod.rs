@@ -6,10 +6,10 @@ mod probes;
 mod rows;
 
 use breakpoints::{Member, Room, Table};
-use danivomel_tests::answers::{Limits, Refusal, Unsettled};
+use danivomel_tests::answers::{Limits, Range, Refusal, Unsettled};
 use danivomel_tests::independent::level::{clamp, has_shares};
 use danivomel_tests::independent::narrow::check_lists;
-use danivomel_tests::independent::settle::{check_job, settle_groups, Narrowing};
+use danivomel_tests::independent::settle::settle_job;
 
 /// Narrows, looking for each end by bisection over values.
 pub fn narrow_by_probes(lows: &mut [u64], highs: &mut [u64], total: u64, limits: Limits) -> Result<(), Refusal> {
@@ -24,18 +24,13 @@ pub fn narrow_by_rows(lows: &mut [u64], highs: &mut [u64], total: u64, limits: L
 }
 
 /// Settles by probes.
-pub fn settle_by_probes(
-    text: &[u8],
-    lows: &mut [u64],
-    highs: &mut [u64],
-    scratch: &mut [u64],
-) -> Result<u64, Unsettled> {
-    settle_by(text, lows, highs, scratch, members_by_probes)
+pub fn settle_by_probes(text: &[u8], table: &mut [Range], scratch: &mut [u64]) -> Result<u64, Unsettled> {
+    settle_job(text, table, scratch.len(), members_by_probes).map(|(_, passes)| passes)
 }
 
 /// Settles by rows.
-pub fn settle_by_rows(text: &[u8], lows: &mut [u64], highs: &mut [u64], scratch: &mut [u64]) -> Result<u64, Unsettled> {
-    settle_by(text, lows, highs, scratch, members_by_rows)
+pub fn settle_by_rows(text: &[u8], table: &mut [Range], scratch: &mut [u64]) -> Result<u64, Unsettled> {
+    settle_job(text, table, scratch.len(), members_by_rows).map(|(_, passes)| passes)
 }
 
 /// Narrows ranges that were checked, by probes.
@@ -85,17 +80,4 @@ fn narrow_within<const N: usize, const R: usize>(
         (*low, *high) = ends(&table, Member { low: *low, high: *high, share });
     }
     Ok(())
-}
-
-/// Settles with a way to narrow.
-fn settle_by(
-    text: &[u8],
-    lows: &mut [u64],
-    highs: &mut [u64],
-    scratch: &mut [u64],
-    narrow: Narrowing,
-) -> Result<u64, Unsettled> {
-    let job = check_job(text, lows, highs, scratch.len()).map_err(|refusal| Unsettled { refusal, passes: 0 })?;
-    let units = job.lows.len();
-    settle_groups(&job.groups, &mut lows[..units], &mut highs[..units], narrow)
 }

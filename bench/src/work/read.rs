@@ -5,9 +5,12 @@ use crate::jobs::{long_text, sound_text};
 use crate::planners::{BISECTION, PLANNER, READS};
 use crate::table::{digits, Table};
 use crate::timing::{in_turn, Contender, Times};
-use danivomel_tests::answers::Read;
+use danivomel_tests::answers::{Range, Read};
 use danivomel_tests::independent::{self, MOST_UNITS};
 use std::hint::black_box;
+
+/// An entry that no text fills in.
+const NONE: Range = Range { low: 8, high: 7 };
 
 /// Times reading.
 pub fn run() -> (Table, Vec<Times>) {
@@ -31,8 +34,7 @@ pub fn run() -> (Table, Vec<Times>) {
     ];
     for (name, text) in texts {
         let times = in_turn(READS.iter().map(|who| contender(*who, &text)).collect(), 1);
-        let (mut lows, mut highs) = (vec![0; MOST_UNITS], vec![0; MOST_UNITS]);
-        let answer = match independent::read(&text, &mut lows, &mut highs) {
+        let answer = match independent::read(&text, &mut [NONE; MOST_UNITS]) {
             Ok(counts) => format!("{} units, {} groups", counts.units, counts.groups),
             Err(refusal) => format!("refused {} at line {}", refusal.number, refusal.place),
         };
@@ -54,12 +56,11 @@ pub fn run() -> (Table, Vec<Times>) {
 /// A contender that reads a text, after its answer was compared.
 fn contender<'a>(who: (&'static str, Read), text: &'a [u8]) -> Contender<'a> {
     let (name, read) = who;
-    let table = || (vec![7; MOST_UNITS], vec![8; MOST_UNITS]);
-    let ((mut lows, mut highs), mut expected) = (table(), table());
-    let answer = independent::read(text, &mut expected.0, &mut expected.1);
-    same(name, "reading", read(text, &mut lows, &mut highs), answer);
-    same(name, "table filled", (lows.clone(), highs.clone()), expected);
+    let (mut table, mut expected) = ([NONE; MOST_UNITS], [NONE; MOST_UNITS]);
+    let answer = independent::read(text, &mut expected);
+    same(name, "reading", read(text, &mut table), answer);
+    same(name, "table filled", table, expected);
     Contender::whole(name, move || {
-        let _ = black_box(read(black_box(text), &mut lows, &mut highs));
+        let _ = black_box(read(black_box(text), &mut table));
     })
 }

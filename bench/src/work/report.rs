@@ -5,7 +5,7 @@ use crate::jobs::job;
 use crate::planners::{BISECTION, PLANNER, REPORTS};
 use crate::table::{digits, Table};
 use crate::timing::{in_turn, Contender};
-use danivomel_tests::answers::Report;
+use danivomel_tests::answers::{Range, Report};
 use danivomel_tests::cases::jobs::print_job;
 use danivomel_tests::independent::{self, MOST_BYTES, SCRATCH_PER_UNIT};
 use std::hint::black_box;
@@ -13,8 +13,7 @@ use std::hint::black_box;
 /// A job's text and its settled table.
 struct Settled {
     text: Vec<u8>,
-    lows: Vec<u64>,
-    highs: Vec<u64>,
+    table: Vec<Range>,
 }
 
 /// Times reporting.
@@ -41,18 +40,18 @@ pub fn run() -> Table {
 /// A random job, settled.
 fn settled(groups: usize, n: usize) -> Settled {
     let job = job(groups, n);
-    let (text, mut lows, mut highs) = (print_job(&job), job.lows, job.highs);
-    let mut scratch = vec![0; SCRATCH_PER_UNIT * lows.len()];
-    independent::settle(&text, &mut lows, &mut highs, &mut scratch).expect("the job settles");
-    Settled { text, lows, highs }
+    let (text, mut table) = (print_job(&job), Range::table(&job.lows, &job.highs));
+    let mut scratch = vec![0; SCRATCH_PER_UNIT * table.len()];
+    independent::settle(&text, &mut table, &mut scratch).expect("the job settles");
+    Settled { text, table }
 }
 
 impl Settled {
     /// Reports the job into a buffer; the report's length.
     fn report(&self, report: Report, buffer: &mut [u8]) -> u64 {
-        let (mut lows, mut highs) = (self.lows.clone(), self.highs.clone());
-        let mut scratch = vec![0; SCRATCH_PER_UNIT * lows.len()];
-        report(&self.text, &mut lows, &mut highs, &mut scratch, buffer).expect("the job is settled")
+        let mut table = self.table.clone();
+        let mut scratch = vec![0; SCRATCH_PER_UNIT * table.len()];
+        report(&self.text, &mut table, &mut scratch, buffer).expect("the job is settled")
     }
 }
 

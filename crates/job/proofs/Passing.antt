@@ -24,7 +24,7 @@ pointer-at ρ l b o = ‵ (fat fullShare ρ l 0 (vptr b o))
 
 module _ {M : Type 1} {𝓤 : URA M} {H : Heap 𝓤} {A : Atoms 𝓤} {K : Type 0} {W : Given 𝓤 H A} {Γ : List (Item 𝓤)} where
   -- a place in a local whose spot is known
-  within : K → {E : Env 𝓤 H} {i : ℕ} {st : List PStep} {sp sp′ : Spot 𝓤 H} → spotOf 𝓤 H E i ≡ sp → Walks K W Γ E sp st sp′ → Finds K W Γ E (place i st) sp′
+  pub within : K → {E : Env 𝓤 H} {i : ℕ} {st : List PStep} {sp sp′ : Spot 𝓤 H} → spotOf 𝓤 H E i ≡ sp → Walks K W Γ E sp st sp′ → Finds K W Γ E (place i st) sp′
   within t {E} {i} {st} {sp} {sp′} e w = from t (subst (λ (z : Spot 𝓤 H). Walks K W Γ E z st sp′) (sym e) w)
 
   -- the pointer and the count of the slice at entry i

@@ -1,4 +1,5 @@
-// The calls on a job text, for C and Rust.
+// The calls on a job text and a table of ranges, for C and Rust.
+// Each holds a table, and is proved by a walk of its MIR, by hand.
 use crate::ForeignRead;
 use crate::ForeignRefusal;
 use crate::ForeignReport;
@@ -6,12 +7,14 @@ use crate::ForeignSettled;
 use crate::refusal_out;
 use job::Reading;
 use report::Reporting;
+use table::Range;
 use works::Settling;
 ghost use mathlib.Core.Path.{_≡_};
 ghost use lib.ListN.{length};
 ghost use Rattle.job.specs.Reading.{readingOf, readTable, lowsAfter, highsAfter};
 ghost use Rattle.works.specs.Calls.{settleText};
 ghost use Rattle.report.specs.Calls.{reportText};
+ghost use Rattle.table.specs.Tables.{lowsOf, highsOf};
 ghost use Rattle.planner.specs.Foreign.{foreignRead, foreignSettled, foreignReport};
 
 // A reading as it crosses.
@@ -35,14 +38,14 @@ fn reading_out(answer: Reading) -> ForeignRead
     }
 }
 
-// Reads a job text into a table, as job::read does.
+// Reads a job text into a table, as table::read does.
 #[no_mangle]
-pub extern "C" fn danivomel_read(text: &[u8], lows: &mut [u64], highs: &mut [u64]) -> ForeignRead
-    ensures { λ r. ⌜ r ≡ foreignRead (readingOf (readTable (now (text .entry)) (length (now (lows .entry))) (length (now (highs .entry))))) ⌝ }
-    ensures { λ _. ⌜ now (lows .exit) ≡ lowsAfter (readTable (now (text .entry)) (length (now (lows .entry))) (length (now (highs .entry)))) (now (lows .entry)) ⌝ }
-    ensures { λ _. ⌜ now (highs .exit) ≡ highsAfter (readTable (now (text .entry)) (length (now (lows .entry))) (length (now (highs .entry)))) (now (highs .entry)) ⌝ }
+pub extern "C" fn danivomel_read(text: &[u8], table: &mut [Range]) -> ForeignRead
+    ensures { λ r. ⌜ r ≡ foreignRead (readingOf (readTable (now (text .entry)) (length (lowsOf (now (table .entry)))) (length (highsOf (now (table .entry)))))) ⌝ }
+    ensures { λ _. ⌜ lowsOf (now (table .exit)) ≡ lowsAfter (readTable (now (text .entry)) (length (lowsOf (now (table .entry)))) (length (highsOf (now (table .entry))))) (lowsOf (now (table .entry))) ⌝ }
+    ensures { λ _. ⌜ highsOf (now (table .exit)) ≡ highsAfter (readTable (now (text .entry)) (length (lowsOf (now (table .entry)))) (length (highsOf (now (table .entry))))) (highsOf (now (table .entry))) ⌝ }
 {
-    let answer = job::read(text, lows, highs);
+    let answer = table::read(text, table);
     reading_out(answer)
 }
 
@@ -73,19 +76,18 @@ fn settling_out(answer: Settling) -> ForeignSettled
     }
 }
 
-// Settles a job text over a table, as works::settle does.
+// Settles a job text over a table, as table::settle does.
 #[no_mangle]
 pub extern "C" fn danivomel_settle(
     text: &[u8],
-    lows: &mut [u64],
-    highs: &mut [u64],
+    table: &mut [Range],
     scratch: &mut [u64],
 ) -> ForeignSettled
-    ensures { λ r. ⌜ r ≡ foreignSettled (settleText (now (text .entry)) (now (lows .entry)) (now (highs .entry)) (length (now (scratch .entry))) .answer) ⌝ }
-    ensures { λ _. ⌜ now (lows .exit) ≡ settleText (now (text .entry)) (now (lows .entry)) (now (highs .entry)) (length (now (scratch .entry))) .lows ⌝ }
-    ensures { λ _. ⌜ now (highs .exit) ≡ settleText (now (text .entry)) (now (lows .entry)) (now (highs .entry)) (length (now (scratch .entry))) .highs ⌝ }
+    ensures { λ r. ⌜ r ≡ foreignSettled (settleText (now (text .entry)) (lowsOf (now (table .entry))) (highsOf (now (table .entry))) (length (now (scratch .entry))) .answer) ⌝ }
+    ensures { λ _. ⌜ lowsOf (now (table .exit)) ≡ settleText (now (text .entry)) (lowsOf (now (table .entry))) (highsOf (now (table .entry))) (length (now (scratch .entry))) .lows ⌝ }
+    ensures { λ _. ⌜ highsOf (now (table .exit)) ≡ settleText (now (text .entry)) (lowsOf (now (table .entry))) (highsOf (now (table .entry))) (length (now (scratch .entry))) .highs ⌝ }
 {
-    let answer = works::calls::settle(text, lows, highs, scratch);
+    let answer = table::settle(text, table, scratch);
     settling_out(answer)
 }
 
@@ -119,20 +121,19 @@ fn reporting_out(answer: Reporting) -> ForeignReport
     }
 }
 
-// Settles a job text over a table and writes its report, as report::report does.
+// Settles a job text over a table and writes its report, as table::report does.
 #[no_mangle]
 pub extern "C" fn danivomel_report(
     text: &[u8],
-    lows: &mut [u64],
-    highs: &mut [u64],
+    table: &mut [Range],
     scratch: &mut [u64],
     buffer: &mut [u8],
 ) -> ForeignReport
-    ensures { λ r. ⌜ r ≡ foreignReport (reportText (now (text .entry)) (now (lows .entry)) (now (highs .entry)) (length (now (scratch .entry))) (now (buffer .entry)) .answer) ⌝ }
-    ensures { λ _. ⌜ now (lows .exit) ≡ reportText (now (text .entry)) (now (lows .entry)) (now (highs .entry)) (length (now (scratch .entry))) (now (buffer .entry)) .lows ⌝ }
-    ensures { λ _. ⌜ now (highs .exit) ≡ reportText (now (text .entry)) (now (lows .entry)) (now (highs .entry)) (length (now (scratch .entry))) (now (buffer .entry)) .highs ⌝ }
-    ensures { λ _. ⌜ now (buffer .exit) ≡ reportText (now (text .entry)) (now (lows .entry)) (now (highs .entry)) (length (now (scratch .entry))) (now (buffer .entry)) .buffer ⌝ }
+    ensures { λ r. ⌜ r ≡ foreignReport (reportText (now (text .entry)) (lowsOf (now (table .entry))) (highsOf (now (table .entry))) (length (now (scratch .entry))) (now (buffer .entry)) .answer) ⌝ }
+    ensures { λ _. ⌜ lowsOf (now (table .exit)) ≡ reportText (now (text .entry)) (lowsOf (now (table .entry))) (highsOf (now (table .entry))) (length (now (scratch .entry))) (now (buffer .entry)) .lows ⌝ }
+    ensures { λ _. ⌜ highsOf (now (table .exit)) ≡ reportText (now (text .entry)) (lowsOf (now (table .entry))) (highsOf (now (table .entry))) (length (now (scratch .entry))) (now (buffer .entry)) .highs ⌝ }
+    ensures { λ _. ⌜ now (buffer .exit) ≡ reportText (now (text .entry)) (lowsOf (now (table .entry))) (highsOf (now (table .entry))) (length (now (scratch .entry))) (now (buffer .entry)) .buffer ⌝ }
 {
-    let answer = report::calls::report(text, lows, highs, scratch, buffer);
+    let answer = table::report(text, table, scratch, buffer);
     reporting_out(answer)
 }

@@ -1,17 +1,18 @@
 // Reading a job text into a table of ranges, settling and reporting over one: thin functions above those on two lists of numbers.
-// A function that holds a table or a reader is proved by a walk of its MIR, by hand.
+// A function that holds a table is proved by a walk of its MIR, by hand.
 use job::Reading;
 use report::Reporting;
 use works::Settling;
 ghost use mathlib.Core.Path.{_≡_};
 ghost use Prim.Native.Nat.{_≤_, min};
-ghost use lib.ListN.{length, drop};
+ghost use lib.ListN.{length};
 ghost use Rattle.job.specs.Reading.{Filled};
 ghost use Rattle.report.specs.Calls.{reported, reportText};
 ghost use Rattle.works.specs.Calls.{settlement, settleText};
 ghost use Rattle.table.specs.Tables.{lowsOf, highsOf, boundsOf, over, ranges, afterSettling, afterReporting, bufferAfter, afterReading};
 
 // The range of a unit.
+#[repr(C)]
 pub struct Range {
     pub low: u64,
     pub high: u64,
@@ -144,27 +145,21 @@ pub fn report(text: &[u8], table: &mut [Range], scratch: &mut [u64], buffer: &mu
     done.answer
 }
 
-// The job text, with the spot that reading has reached.
-pub struct Reader<'a> {
-    text: &'a [u8],
-    at: usize,
-}
-
 // What reading into bounds hands back: the bounds after it, and its answer.
 struct ReadBounds {
     bounds: Bounds,
     answer: Reading,
 }
 
-// Reads a text from a spot on into bounds.
-fn read_bounds(text: &[u8], at: usize, bounds: Bounds) -> ReadBounds
-    requires { ⌜ (at ≤ length (now text)) × (bounds .count ≤ 256) ⌝ }
-    ensures { λ r. ⌜ r ≡ afterReading (drop at (now (text .entry))) bounds ⌝ }
+// Reads a job text into bounds.
+fn read_bounds(text: &[u8], bounds: Bounds) -> ReadBounds
+    requires { ⌜ bounds .count ≤ 256 ⌝ }
+    ensures { λ r. ⌜ r ≡ afterReading (now (text .entry)) bounds ⌝ }
 {
     let mut lows = bounds.lows;
     let mut highs = bounds.highs;
     let count = bounds.count;
-    let answer = job::read(&text[at..], &mut lows[..count], &mut highs[..count]);
+    let answer = job::read(text, &mut lows[..count], &mut highs[..count]);
     let after = Bounds { lows, highs, count };
     ReadBounds {
         bounds: after,
@@ -172,30 +167,12 @@ fn read_bounds(text: &[u8], at: usize, bounds: Bounds) -> ReadBounds
     }
 }
 
-impl<'a> Reader<'a> {
-    // At the start of the text.
-    pub fn new(text: &'a [u8]) -> Reader<'a>
-        ensures { λ r. ⌜ (r .text ≡ text .entry) × (r .at ≡ 0) ⌝ }
-    {
-        Reader { text, at: 0 }
-    }
-
-    // Reads from the spot on.
-    fn read_on(self, bounds: Bounds) -> ReadBounds
-        requires { ⌜ (self .at ≤ length (now (self .text))) × (bounds .count ≤ 256) ⌝ }
-        ensures { λ r. ⌜ r ≡ afterReading (drop (self .entry .at) (now (self .entry .text))) bounds ⌝ }
-    {
-        read_bounds(self.text, self.at, bounds)
-    }
-}
-
 // Reads a job text into a table, as job::read does into its lows and highs.
 pub fn read(text: &[u8], table: &mut [Range]) -> Reading
     ensures { λ r. ⌜ Filled (now (text .entry)) (lowsOf (now (table .entry))) (highsOf (now (table .entry))) (lowsOf (now (table .exit))) (highsOf (now (table .exit))) r ⌝ }
 {
-    let reader = Reader::new(text);
     let before = take_bounds(table);
-    let found = reader.read_on(before);
+    let found = read_bounds(text, before);
     put_bounds(table, found.bounds);
     found.answer
 }

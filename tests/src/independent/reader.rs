@@ -4,7 +4,7 @@ use super::{
     GREATEST_DEVIATION, GREATEST_SHARE, GREATEST_SPREAD, GREATEST_TOTAL, MOST_BYTES, MOST_GROUPS, MOST_MEMBERSHIPS,
     MOST_UNITS,
 };
-use crate::answers::{Counts, Limit, Limits, Refusal};
+use crate::answers::{Counts, Limit, Limits, Range, Refusal};
 
 /// A group of a job; a member is its unit's number less 1.
 #[derive(Clone, Debug, PartialEq, Eq)]
@@ -23,14 +23,13 @@ pub struct Job {
 }
 
 /// Fills a table from the unit lines; entries past the units, and on a refusal all, keep their values.
-pub fn read(text: &[u8], lows: &mut [u64], highs: &mut [u64]) -> Result<Counts, Refusal> {
+pub fn read(text: &[u8], table: &mut [Range]) -> Result<Counts, Refusal> {
     let job = read_job(text)?;
     let units = job.lows.len();
-    if lows.len() < units || highs.len() < units {
+    if table.len() < units {
         return Err(Refusal { number: 1, place: 0 });
     }
-    lows[..units].copy_from_slice(&job.lows);
-    highs[..units].copy_from_slice(&job.highs);
+    table[..units].copy_from_slice(&Range::table(&job.lows, &job.highs));
     Ok(Counts { units: units as u64, groups: job.groups.len() as u64 })
 }
 

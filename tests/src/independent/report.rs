@@ -1,40 +1,35 @@
 //! The report of a settled job, the refusal's line, and what the program writes for a job text.
 
 use super::level::level;
+use super::narrow::narrow_members;
 use super::reader::{read, Job};
 use super::settle::settle_job;
 use super::{MOST_BYTES, MOST_UNITS, SCRATCH_PER_UNIT};
-use crate::answers::{Refusal, Unsettled};
+use crate::answers::{Range, Refusal, Unsettled};
 use std::fmt::Write;
 
 /// Settles the table, and writes the report into the buffer; on a refusal both are as they were. Answers the report's length.
-pub fn report(
-    text: &[u8],
-    lows: &mut [u64],
-    highs: &mut [u64],
-    scratch: &mut [u64],
-    buffer: &mut [u8],
-) -> Result<u64, Unsettled> {
+pub fn report(text: &[u8], table: &mut [Range], scratch: &mut [u64], buffer: &mut [u8]) -> Result<u64, Unsettled> {
     if buffer.len() < MOST_BYTES {
         return Err(Unsettled { refusal: Refusal { number: 1, place: 0 }, passes: 0 });
     }
-    let (job, passes) = settle_job(text, lows, highs, scratch.len())?;
-    let lines = report_lines(&job, passes, lows, highs);
+    let (job, passes) = settle_job(text, table, scratch.len(), narrow_members)?;
+    let lines = report_lines(&job, passes, table);
     buffer[..lines.len()].copy_from_slice(lines.as_bytes());
     Ok(lines.len() as u64)
 }
 
 /// The report's text for a settled table.
-fn report_lines(job: &Job, passes: u64, lows: &[u64], highs: &[u64]) -> String {
+fn report_lines(job: &Job, passes: u64, table: &[Range]) -> String {
     let mut lines = format!("(settled {passes})\n");
-    for unit in 0..job.lows.len() {
-        let _ = writeln!(lines, "(unit {} {} {})", unit + 1, lows[unit], highs[unit]);
+    for (index, range) in table[..job.lows.len()].iter().enumerate() {
+        let _ = writeln!(lines, "(unit {} {} {})", index + 1, range.low, range.high);
     }
     for (index, group) in job.groups.iter().enumerate() {
-        let member_lows: Vec<u64> = group.members.iter().map(|&unit| lows[unit]).collect();
-        let member_highs: Vec<u64> = group.members.iter().map(|&unit| highs[unit]).collect();
-        let mut plan = vec![0; group.members.len()];
-        let levelled = level(&member_lows, &member_highs, group.total, &mut plan).expect("a settled group has a plan");
+        let members: Vec<Range> = group.members.iter().map(|&unit| table[unit]).collect();
+        let (lows, highs) = Range::lists(&members);
+        let mut plan = vec![0; members.len()];
+        let levelled = level(&lows, &highs, group.total, &mut plan).expect("a settled group has a plan");
         let (deviation, spread) = (levelled.deviation.0, levelled.spread.0);
         let _ = write!(lines, "(group {} {} {deviation} {spread} (plan", index + 1, levelled.level);
         for share in plan {
@@ -52,14 +47,13 @@ pub fn refusal_line(refusal: Refusal) -> String {
 
 /// What the program writes for a job text: it reads the job, which fills the table, then reports.
 pub fn program(text: &[u8]) -> Vec<u8> {
-    let mut lows = [0; MOST_UNITS];
-    let mut highs = [0; MOST_UNITS];
-    if let Err(refusal) = read(text, &mut lows, &mut highs) {
+    let mut table = [Range { low: 0, high: 0 }; MOST_UNITS];
+    if let Err(refusal) = read(text, &mut table) {
         return refusal_line(refusal).into_bytes();
     }
     let mut scratch = [0; SCRATCH_PER_UNIT * MOST_UNITS];
     let mut buffer = vec![0; MOST_BYTES];
-    match report(text, &mut lows, &mut highs, &mut scratch, &mut buffer) {
+    match report(text, &mut table, &mut scratch, &mut buffer) {
         Ok(length) => {
             buffer.truncate(length as usize);
             buffer

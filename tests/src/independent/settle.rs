@@ -4,57 +4,54 @@ use super::level::{check_numbers, check_order};
 use super::narrow::narrow_members;
 use super::reader::{read_job, Group, Job};
 use super::{MOST_UNITS, SCRATCH_PER_UNIT};
-use crate::answers::{Limits, Refusal, Unsettled};
+use crate::answers::{Limits, Range, Refusal, Unsettled};
 
 /// Narrows the members' lows and highs under a total and limits, or answers 11 or 12.
 pub type Narrowing = fn(&mut [u64], &mut [u64], u64, Limits) -> Result<(), u64>;
 
 /// Settles the table under the groups of the text; on a refusal the table is as it was. Answers the passes.
-pub fn settle(text: &[u8], lows: &mut [u64], highs: &mut [u64], scratch: &mut [u64]) -> Result<u64, Unsettled> {
-    settle_job(text, lows, highs, scratch.len()).map(|(_, passes)| passes)
+pub fn settle(text: &[u8], table: &mut [Range], scratch: &mut [u64]) -> Result<u64, Unsettled> {
+    settle_job(text, table, scratch.len(), narrow_members).map(|(_, passes)| passes)
 }
 
-/// Settles, and answers the job that was read beside the passes.
-pub fn settle_job(text: &[u8], lows: &mut [u64], highs: &mut [u64], scratch: usize) -> Result<(Job, u64), Unsettled> {
-    let job = check_job(text, lows, highs, scratch).map_err(|refusal| Unsettled { refusal, passes: 0 })?;
-    let units = job.lows.len();
-    let passes = settle_groups(&job.groups, &mut lows[..units], &mut highs[..units], narrow_members)?;
+/// Settles with a way to narrow, and answers the job that was read beside the passes.
+pub fn settle_job(
+    text: &[u8],
+    table: &mut [Range],
+    scratch: usize,
+    narrow: Narrowing,
+) -> Result<(Job, u64), Unsettled> {
+    let job = check_job(text, table, scratch).map_err(|refusal| Unsettled { refusal, passes: 0 })?;
+    let opening = &mut table[..job.lows.len()];
+    let (mut lows, mut highs) = Range::lists(opening);
+    let passes = settle_groups(&job.groups, &mut lows, &mut highs, narrow)?;
+    opening.copy_from_slice(&Range::table(&lows, &highs));
     Ok((job, passes))
 }
 
 /// Reads the job, and checks the table and the scratch against it.
-pub fn check_job(text: &[u8], lows: &[u64], highs: &[u64], scratch: usize) -> Result<Job, Refusal> {
+fn check_job(text: &[u8], table: &[Range], scratch: usize) -> Result<Job, Refusal> {
     let job = read_job(text)?;
     let units = job.lows.len();
-    if lows.len() < units || highs.len() < units || scratch < SCRATCH_PER_UNIT * units {
+    if table.len() < units || scratch < SCRATCH_PER_UNIT * units {
         return Err(Refusal { number: 1, place: 0 });
     }
-    check_numbers(&lows[..units], &highs[..units])?;
-    check_order(&lows[..units], &highs[..units])?;
+    let (lows, highs) = Range::lists(&table[..units]);
+    check_numbers(&lows, &highs)?;
+    check_order(&lows, &highs)?;
     Ok(job)
 }
 
-/// Settles ranges that were checked; on a refusal they are as they were.
-pub fn settle_groups(
-    groups: &[Group],
-    lows: &mut [u64],
-    highs: &mut [u64],
-    narrow: Narrowing,
-) -> Result<u64, Unsettled> {
-    let opening = (lows.to_vec(), highs.to_vec());
+/// Settles ranges that were checked; where a group has no plan, they are left as the turns before made them.
+fn settle_groups(groups: &[Group], lows: &mut [u64], highs: &mut [u64], narrow: Narrowing) -> Result<u64, Unsettled> {
     let mut passes = 0;
     loop {
         passes += 1;
         let mut changed = false;
         for (index, group) in groups.iter().enumerate() {
-            match revise(group, lows, highs, narrow) {
-                Ok(moved) => changed |= moved,
-                Err(number) => {
-                    lows.copy_from_slice(&opening.0);
-                    highs.copy_from_slice(&opening.1);
-                    return Err(Unsettled { refusal: Refusal { number, place: index as u64 + 1 }, passes });
-                }
-            }
+            let place = index as u64 + 1;
+            let refuse = |number| Unsettled { refusal: Refusal { number, place }, passes };
+            changed |= revise(group, lows, highs, narrow).map_err(refuse)?;
         }
         if !changed {
             return Ok(passes);

@@ -2,16 +2,15 @@
 //! buffer, after each.
 
 use super::faults::{each_combination, fault, Fault};
-use super::marks;
-use crate::answers::{Read, Refusal, Report, Settle, Unsettled};
+use super::{marks, with_spare};
+use crate::answers::{Range, Read, Refusal, Report, Settle, Unsettled};
 use crate::check::Checks;
 
 /// What a call on a job text gets.
 #[derive(Clone, Debug, PartialEq, Eq)]
 struct Call {
     text: String,
-    lows: Vec<u64>,
-    highs: Vec<u64>,
+    table: Vec<Range>,
     scratch: usize,
     buffer: usize,
 }
@@ -22,7 +21,7 @@ pub fn run_read(checks: &mut Checks, who: &str, read: Read) {
         let faults: Vec<Fault<Call>> = text_faults().into_iter().chain(table_faults()).collect();
         each_combination(&sound(), &faults, |call, refusal| {
             let mut after = call.clone();
-            let found = read(call.text.as_bytes(), &mut after.lows, &mut after.highs);
+            let found = read(call.text.as_bytes(), &mut after.table);
             topic.same(call, "refusal", found.map(|_| ()), Err(refusal));
             topic.same(call, "table after the refusal", &after, call);
         });
@@ -34,7 +33,7 @@ pub fn run_settle(checks: &mut Checks, who: &str, settle: Settle) {
     checks.topic("settle, refusals in every combination", who, |topic| {
         each_combination(&sound(), &settle_faults(), |call, refusal| {
             let mut after = call.clone();
-            let found = settle(call.text.as_bytes(), &mut after.lows, &mut after.highs, &mut marks(call.scratch));
+            let found = settle(call.text.as_bytes(), &mut after.table, &mut marks(call.scratch));
             topic.same(call, "refusal", found, Err(in_pass_one(refusal)));
             topic.same(call, "table after the refusal", &after, call);
         });
@@ -50,9 +49,8 @@ pub fn run_report(checks: &mut Checks, who: &str, report: Report) {
         let mut buffer = filled.clone();
         each_combination(&sound(), &faults, |call, refusal| {
             let mut after = call.clone();
-            let (lows, highs) = (&mut after.lows, &mut after.highs);
             let (text, scratch) = (call.text.as_bytes(), &mut marks(call.scratch));
-            let found = report(text, lows, highs, scratch, &mut buffer[..call.buffer]);
+            let found = report(text, &mut after.table, scratch, &mut buffer[..call.buffer]);
             topic.same(call, "refusal", found, Err(in_pass_one(refusal)));
             topic.same(call, "table after the refusal", &after, call);
             topic.holds(call, "buffer after the refusal", buffer == filled);
@@ -68,7 +66,8 @@ fn in_pass_one(refusal: Refusal) -> Unsettled {
 /// A call without a fault, on a table other than the unit lines.
 fn sound() -> Call {
     let text = "(unit 0 9)\n(unit 0 9)\n(unit 0 9)\n(group 21 (dev any) (spread any) (of 3 2))\n";
-    Call { text: text.to_string(), lows: vec![1, 0, 14], highs: vec![20; 3], scratch: 24, buffer: 65_536 }
+    let table = with_spare(&[(1, 20), (0, 20), (14, 20)]);
+    Call { text: text.to_string(), table, scratch: 24, buffer: 65_536 }
 }
 
 /// The faults of a settling in the order in which they are looked for.
@@ -76,10 +75,10 @@ fn settle_faults() -> Vec<Fault<Call>> {
     let mut faults = text_faults();
     faults.extend(table_faults());
     faults.push(fault(1, 0, |call| call.scratch = 23));
-    faults.push(fault(4, 1, |call| call.lows[0] = 1_000_001));
-    faults.push(fault(4, 3, |call| call.highs[2] = u64::MAX));
-    faults.push(fault(7, 1, |call| call.highs[0] = 0));
-    faults.push(fault(7, 2, |call| call.lows[1] = 21));
+    faults.push(fault(4, 1, |call| call.table[0].low = 1_000_001));
+    faults.push(fault(4, 3, |call| call.table[2].high = u64::MAX));
+    faults.push(fault(7, 1, |call| call.table[0].high = 0));
+    faults.push(fault(7, 2, |call| call.table[1].low = 21));
     faults.push(fault(11, 1, |call| call.text = call.text.replace("group 21", "group 41")));
     faults.push(fault(12, 1, |call| call.text = call.text.replace("dev any", "dev 13")));
     faults
@@ -96,5 +95,5 @@ fn text_faults() -> Vec<Fault<Call>> {
 
 /// A table too short for the units.
 fn table_faults() -> Vec<Fault<Call>> {
-    vec![fault(1, 0, |call| call.lows.truncate(2)), fault(1, 0, |call| call.highs.truncate(1))]
+    vec![fault(1, 0, |call| call.table.truncate(2)), fault(1, 0, |call| call.table.truncate(0))]
 }

@@ -14,6 +14,8 @@ pub mod report;
 pub mod settle;
 pub mod tables;
 
+use crate::answers::Range;
+
 /// A value that no call writes, to see that a number kept its value.
 pub fn mark(index: usize) -> u64 {
     u64::MAX - 1_000 - index as u64
@@ -22,4 +24,26 @@ pub fn mark(index: usize) -> u64 {
 /// A list of such values.
 pub fn marks(length: usize) -> Vec<u64> {
     (0..length).map(mark).collect()
+}
+
+/// A table of such values.
+pub fn marked(length: usize) -> Vec<Range> {
+    (0..length).map(|unit| Range { low: mark(2 * unit), high: mark(2 * unit + 1) }).collect()
+}
+
+/// A table of ranges that are given as pairs.
+pub fn table_of(pairs: &[(u64, u64)]) -> Vec<Range> {
+    pairs.iter().map(|&(low, high)| Range { low, high }).collect()
+}
+
+/// The same with two entries past the units.
+pub fn with_spare(pairs: &[(u64, u64)]) -> Vec<Range> {
+    let mut table = marked(pairs.len() + 2);
+    table[..pairs.len()].copy_from_slice(&table_of(pairs));
+    table
+}
+
+/// The ranges of a table as pairs.
+pub fn pairs_of(table: &[Range]) -> Vec<(u64, u64)> {
+    table.iter().map(|range| (range.low, range.high)).collect()
 }

@@ -1,7 +1,7 @@
 //! Reading job texts: sound jobs, damaged ones, and the edges of every range from both sides.
 
-use super::marks;
-use crate::answers::{Counts, Read, Refusal};
+use super::marked;
+use crate::answers::{Counts, Range, Read, Refusal};
 use crate::cases::damage::damage;
 use crate::cases::jobs::{print_job, sound, MIDDLE, TINY, WIDE};
 use crate::check::{Checks, Topic};
@@ -30,32 +30,30 @@ pub fn compare(checks: &mut Checks, who: &str, read: Read) {
     checks.topic("read, against the independent planner", who, |topic| {
         for _ in 0..20_000 {
             let text = damaged(topic, 3);
-            let (mut lows, mut highs) = (marks(64), marks(64));
-            let expected = independent::read(&text, &mut lows, &mut highs);
-            let found = attempt(read, &text, 64);
-            topic.same(&Shown(&text), "answer and table", found, (expected, lows, highs));
+            let expected = attempt(independent::read, &text, 64);
+            topic.same(&Shown(&text), "answer and table", attempt(read, &text, 64), expected);
         }
     });
 }
 
 /// Reads into a table of a given length; the answer and the table after the call.
-fn attempt(read: Read, text: &[u8], length: usize) -> (Result<Counts, Refusal>, Vec<u64>, Vec<u64>) {
-    let (mut lows, mut highs) = (marks(length), marks(length));
-    let answer = read(text, &mut lows, &mut highs);
-    (answer, lows, highs)
+fn attempt(read: Read, text: &[u8], length: usize) -> (Result<Counts, Refusal>, Vec<Range>) {
+    let mut table = marked(length);
+    let answer = read(text, &mut table);
+    (answer, table)
 }
 
 /// Checks a refusal, and that the table kept its values.
 pub fn refused(topic: &mut Topic, read: Read, text: &[u8], number: u64, place: u64) {
     let found = attempt(read, text, 256);
-    topic.same(&Shown(text), "refusal", found, (Err(Refusal { number, place }), marks(256), marks(256)));
+    topic.same(&Shown(text), "refusal", found, (Err(Refusal { number, place }), marked(256)));
 }
 
 /// Checks that a text is read as a number of units and groups.
 fn accepted(topic: &mut Topic, read: Read, text: &[u8], units: u64, groups: u64) {
-    let (answer, lows, _) = attempt(read, text, 256);
+    let (answer, table) = attempt(read, text, 256);
     topic.same(&Shown(text), "counts", answer, Ok(Counts { units, groups }));
-    topic.same(&Shown(text), "entries past the units", &lows[units as usize..], &marks(256)[units as usize..]);
+    topic.same(&Shown(text), "entries past the units", &table[units as usize..], &marked(256)[units as usize..]);
 }
 
 /// Jobs that were printed: the ranges come back, and what is past them keeps its value; a table too short is 1.
@@ -65,14 +63,13 @@ fn sound_jobs(topic: &mut Topic, read: Read) {
         let job = sound(&mut topic.random, size);
         let text = print_job(&job);
         let units = job.lows.len();
-        let (mut lows, mut highs) = (marks(units + 2), marks(units + 2));
-        lows[..units].copy_from_slice(&job.lows);
-        highs[..units].copy_from_slice(&job.highs);
+        let mut filled = marked(units + 2);
+        filled[..units].copy_from_slice(&Range::table(&job.lows, &job.highs));
         let counts = Counts { units: units as u64, groups: job.groups.len() as u64 };
-        topic.same(&job, "answer and table", attempt(read, &text, units + 2), (Ok(counts), lows, highs));
+        topic.same(&job, "answer and table", attempt(read, &text, units + 2), (Ok(counts), filled));
         let short = attempt(read, &text, units - 1);
         let refusal = Err(Refusal { number: 1, place: 0 });
-        topic.same(&job, "table too short", short, (refusal, marks(units - 1), marks(units - 1)));
+        topic.same(&job, "table too short", short, (refusal, marked(units - 1)));
     }
 }
 

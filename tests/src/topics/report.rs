@@ -1,9 +1,9 @@
 //! Reports: the worked job whole, reports built from enumeration, what the buffer keeps, and the largest report.
 
-use super::marks;
 use super::read::Shown;
 use super::settle::WORKED;
-use crate::answers::{Refusal, Report, Unsettled};
+use super::{marks, with_spare};
+use crate::answers::{self, Limits, Refusal, Report, Unsettled};
 use crate::cases::jobs::{print_job, sound, MIDDLE, TINY};
 use crate::check::{Checks, Topic};
 use crate::enumerate::{self, Range};
@@ -17,7 +17,7 @@ pub const WORKED_REPORT: &str =
 const FILL: u8 = 0xa5;
 
 /// What a call left: its answer, the table and the buffer.
-type Left = (Result<u64, Unsettled>, Vec<Range>, Vec<u8>);
+type Left = (Result<u64, Unsettled>, Vec<answers::Range>, Vec<u8>);
 
 /// Tries a planner's report.
 pub fn run(checks: &mut Checks, who: &str, report: Report) {
@@ -32,25 +32,25 @@ pub fn compare(checks: &mut Checks, who: &str, report: Report) {
         for _ in 0..3_000 {
             let job = sound(&mut topic.random, MIDDLE);
             let text = print_job(&job);
-            let expected = attempt(independent::report, &text, &table_of(&job), 65_600);
-            let found = attempt(report, &text, &table_of(&job), 65_600);
+            let expected = attempt(independent::report, &text, &opening_of(&job), 65_600);
+            let found = attempt(report, &text, &opening_of(&job), 65_600);
             topic.same(&Shown(&text), "answer, table and buffer", found, expected);
         }
     });
 }
 
 /// The table of a job's unit lines.
-fn table_of(job: &Job) -> Vec<Range> {
+fn opening_of(job: &Job) -> Vec<Range> {
     job.lows.iter().copied().zip(job.highs.iter().copied()).collect()
 }
 
-/// Reports on a table into a filled buffer.
+/// Reports on a table with entries past the units into a filled buffer.
 fn attempt(report: Report, text: &[u8], opening: &[Range], length: usize) -> Left {
-    let (mut lows, mut highs): (Vec<u64>, Vec<u64>) = opening.iter().copied().unzip();
+    let mut table = with_spare(opening);
     let mut scratch = marks(8 * opening.len());
     let mut buffer = vec![FILL; length];
-    let answer = report(text, &mut lows, &mut highs, &mut scratch, &mut buffer);
-    (answer, lows.into_iter().zip(highs).collect(), buffer)
+    let answer = report(text, &mut table, &mut scratch, &mut buffer);
+    (answer, table, buffer)
 }
 
 /// Checks a whole report: the answer, the settled table, the bytes, and the bytes past them.
@@ -61,7 +61,7 @@ fn check(topic: &mut Topic, report: Report, text: &[u8], opening: &[Range], expe
     let (answer, table, found) = attempt(report, text, opening, length);
     let case = Shown(text);
     topic.same(&case, "answer", answer, Ok(expected.0.len() as u64));
-    topic.same(&case, "settled table", table, expected.1);
+    topic.same(&case, "settled table", table, with_spare(&expected.1));
     topic.same(&case, "report", Shown(&found[..expected.0.len()]), Shown(expected.0.as_bytes()));
     topic.holds(&case, "buffer", found == buffer);
 }
@@ -103,7 +103,7 @@ fn enumerated(topic: &mut Topic, report: Report) {
     for _ in 0..3_000 {
         let job = sound(&mut topic.random, TINY);
         let text = print_job(&job);
-        let opening = table_of(&job);
+        let opening = opening_of(&job);
         let mut table = opening.clone();
         match enumerate::settle(&job.groups, &mut table) {
             Ok(passes) => check(topic, report, &text, &opening, (&by_enumeration(&job, passes, &table), table)),
@@ -124,7 +124,7 @@ fn enumerated(topic: &mut Topic, report: Report) {
 /// Checks a refusal, and that table and buffer kept their values.
 fn refused(topic: &mut Topic, report: Report, text: &[u8], opening: &[Range], length: usize, expected: Unsettled) {
     let (answer, table, buffer) = attempt(report, text, opening, length);
-    let kept = table == opening && buffer == vec![FILL; length];
+    let kept = table == with_spare(opening) && buffer == vec![FILL; length];
     topic.same(&Shown(text), "refusal", answer, Err(expected));
     topic.holds(&Shown(text), "table and buffer after the refusal", kept);
 }
@@ -138,7 +138,7 @@ fn largest(topic: &mut Topic, report: Report) {
     for group in 0..64 {
         let members: Vec<usize> = (0..64).map(|member| (group * 4 + member) % 256).collect();
         let total = members.iter().map(|&unit| opening[unit].0).sum();
-        job.groups.push(independent::reader::Group { total, limits: crate::answers::Limits::ANY, members });
+        job.groups.push(independent::reader::Group { total, limits: Limits::ANY, members });
     }
     let text = print_job(&job);
     let expected = attempt(independent::report, &text, &opening, 65_536);
@@ -153,6 +153,6 @@ fn largest(topic: &mut Topic, report: Report) {
         Shown(&buffer[length - line.len().min(length)..length]),
         Shown(line.as_bytes()),
     );
-    topic.same(&"the largest report", "answer and table", (answer, table), (expected.0, opening));
+    topic.same(&"the largest report", "answer and table", (answer, table), (expected.0, with_spare(&opening)));
     topic.holds(&"the largest report", "bytes", buffer == expected.2);
 }

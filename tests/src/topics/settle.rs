@@ -1,7 +1,7 @@
 //! Settling jobs: the worked jobs, slow jobs, and what a call leaves in the table.
 
-use super::marks;
 use super::read::Shown;
+use super::{marks, pairs_of, table_of, with_spare};
 use crate::answers::{Refusal, Settle, Unsettled};
 use crate::cases::jobs::{other_table, print_job, sound, MIDDLE, WIDE};
 use crate::check::{Checks, Topic};
@@ -29,36 +29,28 @@ pub fn compare(checks: &mut Checks, who: &str, settle: Settle) {
         for round in 0..1_500 {
             let size = if round % 10 == 0 { WIDE } else { MIDDLE };
             let job = sound(&mut topic.random, size);
-            let (mut lows, mut highs) = other_table(&mut topic.random, &job);
-            let opening: Vec<Range> = lows.iter().copied().zip(highs.iter().copied()).collect();
+            let (lows, highs) = other_table(&mut topic.random, &job);
+            let opening: Vec<Range> = lows.into_iter().zip(highs).collect();
             let text = print_job(&job);
-            let mut scratch = vec![0; 8 * lows.len()];
-            let answer = independent::settle(&text, &mut lows, &mut highs, &mut scratch);
-            let table = lows.into_iter().zip(highs).collect();
-            check(topic, settle, &text, &opening, answer.map(|passes| (passes, table)));
+            let mut table = table_of(&opening);
+            let answer = independent::settle(&text, &mut table, &mut vec![0; 8 * opening.len()]);
+            check(topic, settle, &text, &opening, answer.map(|passes| (passes, pairs_of(&table))));
         }
     });
 }
 
 /// Settles a table with entries past the units and a scratch that holds something; compares the answer and the table.
 pub fn check(topic: &mut Topic, settle: Settle, text: &[u8], opening: &[Range], expected: Expected) {
-    let units = opening.len();
-    let spare = marks(units + 2);
-    let (mut lows, mut highs) = (spare.clone(), spare.clone());
-    let (mut left_lows, mut left_highs) = (spare.clone(), spare);
+    let mut table = with_spare(opening);
     let left = match &expected {
-        Ok((_, table)) => table,
-        Err(_) => opening,
+        Ok((_, settled)) => with_spare(settled),
+        Err(_) => table.clone(),
     };
-    for unit in 0..units {
-        (lows[unit], highs[unit]) = opening[unit];
-        (left_lows[unit], left_highs[unit]) = left[unit];
-    }
-    let mut scratch = marks(8 * units + topic.random.index(3));
-    let found = settle(text, &mut lows, &mut highs, &mut scratch);
+    let mut scratch = marks(8 * opening.len() + topic.random.index(3));
+    let found = settle(text, &mut table, &mut scratch);
     let case = (Shown(text), opening);
     topic.same(&case, "answer", found, expected.map(|(passes, _)| passes));
-    topic.same(&case, "table after the call", (lows, highs), (left_lows, left_highs));
+    topic.same(&case, "table after the call", table, left);
 }
 
 /// A refusal for want of a plan.

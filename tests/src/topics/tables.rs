@@ -1,6 +1,7 @@
 //! Settled tables: held to the enumeration of all tables of small jobs, and to the laws of settling.
 
 use super::settle::{check, no_plan, Expected};
+use super::{pairs_of, table_of};
 use crate::answers::Settle;
 use crate::cases::jobs::{other_table, print_job, sound, MIDDLE, TINY};
 use crate::check::{Checks, Topic};
@@ -50,10 +51,9 @@ fn enumerated(topic: &mut Topic, settle: Settle) {
 
 /// Settles a table; the passes and the settled table, or nothing where there is no plan.
 fn settled(settle: Settle, text: &[u8], opening: &[Range]) -> Option<(u64, Vec<Range>)> {
-    let (mut lows, mut highs): (Vec<u64>, Vec<u64>) = opening.iter().copied().unzip();
-    let mut scratch = vec![0; 8 * opening.len()];
-    let passes = settle(text, &mut lows, &mut highs, &mut scratch).ok()?;
-    Some((passes, lows.into_iter().zip(highs).collect()))
+    let mut table = table_of(opening);
+    let passes = settle(text, &mut table, &mut vec![0; 8 * opening.len()]).ok()?;
+    Some((passes, pairs_of(&table)))
 }
 
 /// Larger jobs: inside the opening table, passes within their bound, units in no group untouched, and settling what
