@@ -18,7 +18,7 @@ fn row_of(table: &Table, member: Member, value: u64, near: usize) -> usize {
             _ if top <= near => top - step,
             _ => near,
         };
-        step += 2;
+        step *= 2;
         if table.rest(&table.rows[middle], member) + value <= table.total {
             row = middle;
         } else {

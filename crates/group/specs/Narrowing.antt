@@ -3,7 +3,7 @@ use Prim.Native.Nat.{ℕ}
 use mathlib.Core.List.{List}
 use mathlib.Core.Path.{_≡_}
 use lib.ListN.{length}
-use Rattle.model.specs.Plans.{turnOf}
+use Rattle.model.specs.Plans.{turnOf, narrowedLows, narrowedHighs}
 use Rattle.model.specs.declared.Limits.{Limits}
 use Rattle.model.specs.declared.Turn.{Turn}
 use Rattle.model.specs.declared.Turn.the-variants.{NoPlan}
@@ -17,6 +17,12 @@ use Rattle.group.specs.declared.Narrowing.the-variants.{Refused}
 abbrev pub afterTurn : Turn → List ℕ → List ℕ → List ℕ
 afterTurn Turn.Narrowed narrowed was = narrowed
 afterTurn (NoPlan number) narrowed was = was
+
+-- 01: "A turn hands back narrowed ranges or a refusal": the answer, and both lists after it
+pub record Turned (lows highs : List ℕ) (total : ℕ) (limits : Limits) (turn : Turn) (lowsLeft highsLeft : List ℕ) : Type 0 where
+  pub answer : turn ≡ turnOf lows highs total limits
+  pub lowsAre : lowsLeft ≡ afterTurn turn (narrowedLows lows highs total limits) lows
+  pub highsAre : highsLeft ≡ afterTurn turn (narrowedHighs lows highs total limits) highs
 
 -- a turn's answer as that of a call on lists: a refusal has place 0
 abbrev pub afterCheck : Check → Turn → Narrowing

@@ -16,10 +16,10 @@ ghost use mathlib.Core.Bool.{false};
 ghost use mathlib.Core.Path.{_≡_};
 ghost use Prim.Native.Nat.{_*_, _≤_};
 ghost use lib.ListN.{length, getD};
-ghost use Rattle.model.specs.Plans.{taken, turnOf, narrowedLows, narrowedHighs};
+ghost use Rattle.model.specs.Plans.{taken, narrowedLows, narrowedHighs};
 ghost use Rattle.probe.specs.Probes.{InReach, LevelledOn};
 ghost use Rattle.group.specs.Sound.{Sound, HasShares};
-ghost use Rattle.group.specs.Narrowing.{afterTurn};
+ghost use Rattle.group.specs.Narrowing.{Turned};
 ghost use Rattle.group.specs.Edges.{Edge, Reach, Approach};
 ghost use Rattle.group.specs.Tabled.{Tabled, HasPlan, Room, Space};
 
@@ -130,9 +130,7 @@ fn narrow_on(
     requires { ⌜ Tabled (now lows) (now highs) total (now table) ⌝ }
     requires { ⌜ length (now starts) ≡ length (now lows) ⌝ }
     requires { ⌜ length (now stops) ≡ length (now lows) ⌝ }
-    ensures { λ r. ⌜ r ≡ turnOf (now (lows .entry)) (now (highs .entry)) total limits ⌝ }
-    ensures { λ r. ⌜ now (lows .exit) ≡ afterTurn r (narrowedLows (now (lows .entry)) (now (highs .entry)) total limits) (now (lows .entry)) ⌝ }
-    ensures { λ r. ⌜ now (highs .exit) ≡ afterTurn r (narrowedHighs (now (lows .entry)) (now (highs .entry)) total limits) (now (highs .entry)) ⌝ }
+    ensures { λ r. ⌜ Turned (now (lows .entry)) (now (highs .entry)) total limits r (now (lows .exit)) (now (highs .exit)) ⌝ }
 {
     let levelled = level_on(lows, highs, table, total);
     let row = levelled.row;
@@ -158,9 +156,7 @@ fn narrow_with(
 ) -> Turn
     requires { ⌜ Sound (now lows) (now highs) ⌝ }
     requires { ⌜ Room (length (now lows)) (now starts) (now stops) (now table) ⌝ }
-    ensures { λ r. ⌜ r ≡ turnOf (now (lows .entry)) (now (highs .entry)) total limits ⌝ }
-    ensures { λ r. ⌜ now (lows .exit) ≡ afterTurn r (narrowedLows (now (lows .entry)) (now (highs .entry)) total limits) (now (lows .entry)) ⌝ }
-    ensures { λ r. ⌜ now (highs .exit) ≡ afterTurn r (narrowedHighs (now (lows .entry)) (now (highs .entry)) total limits) (now (highs .entry)) ⌝ }
+    ensures { λ r. ⌜ Turned (now (lows .entry)) (now (highs .entry)) total limits r (now (lows .exit)) (now (highs .exit)) ⌝ }
 {
     if !has_shares(lows, highs, total) {
         return Turn::NoPlan(11);
@@ -181,9 +177,7 @@ fn narrow_within(
 ) -> Turn
     requires { ⌜ Sound (now lows) (now highs) ⌝ }
     requires { ⌜ Space (length (now lows)) (now starts) (now stops) (now table) ⌝ }
-    ensures { λ r. ⌜ r ≡ turnOf (now (lows .entry)) (now (highs .entry)) total limits ⌝ }
-    ensures { λ r. ⌜ now (lows .exit) ≡ afterTurn r (narrowedLows (now (lows .entry)) (now (highs .entry)) total limits) (now (lows .entry)) ⌝ }
-    ensures { λ r. ⌜ now (highs .exit) ≡ afterTurn r (narrowedHighs (now (lows .entry)) (now (highs .entry)) total limits) (now (highs .entry)) ⌝ }
+    ensures { λ r. ⌜ Turned (now (lows .entry)) (now (highs .entry)) total limits r (now (lows .exit)) (now (highs .exit)) ⌝ }
 {
     let count = lows.len();
     narrow_with(
@@ -201,9 +195,7 @@ fn narrow_within(
 fn narrow_few(lows: &mut [u64], highs: &mut [u64], total: u64, limits: Limits) -> Turn
     requires { ⌜ Sound (now lows) (now highs) ⌝ }
     requires { ⌜ length (now lows) ≤ 16 ⌝ }
-    ensures { λ r. ⌜ r ≡ turnOf (now (lows .entry)) (now (highs .entry)) total limits ⌝ }
-    ensures { λ r. ⌜ now (lows .exit) ≡ afterTurn r (narrowedLows (now (lows .entry)) (now (highs .entry)) total limits) (now (lows .entry)) ⌝ }
-    ensures { λ r. ⌜ now (highs .exit) ≡ afterTurn r (narrowedHighs (now (lows .entry)) (now (highs .entry)) total limits) (now (highs .entry)) ⌝ }
+    ensures { λ r. ⌜ Turned (now (lows .entry)) (now (highs .entry)) total limits r (now (lows .exit)) (now (highs .exit)) ⌝ }
 {
     let mut starts = [0u64; 16];
     let mut stops = [0u64; 16];
@@ -222,9 +214,7 @@ fn narrow_few(lows: &mut [u64], highs: &mut [u64], total: u64, limits: Limits) -
 // Narrows sound lists in place, or says that there is no plan and leaves them as they were.
 pub fn narrow_core(lows: &mut [u64], highs: &mut [u64], total: u64, limits: Limits) -> Turn
     requires { ⌜ Sound (now lows) (now highs) ⌝ }
-    ensures { λ r. ⌜ r ≡ turnOf (now (lows .entry)) (now (highs .entry)) total limits ⌝ }
-    ensures { λ r. ⌜ now (lows .exit) ≡ afterTurn r (narrowedLows (now (lows .entry)) (now (highs .entry)) total limits) (now (lows .entry)) ⌝ }
-    ensures { λ r. ⌜ now (highs .exit) ≡ afterTurn r (narrowedHighs (now (lows .entry)) (now (highs .entry)) total limits) (now (highs .entry)) ⌝ }
+    ensures { λ r. ⌜ Turned (now (lows .entry)) (now (highs .entry)) total limits r (now (lows .exit)) (now (highs .exit)) ⌝ }
 {
     if lows.len() <= 16 {
         return narrow_few(lows, highs, total, limits);

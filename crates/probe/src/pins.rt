@@ -68,6 +68,17 @@ fn row_between(k: usize, top: usize, near: usize, step: usize) -> usize
     near
 }
 
+// Twice a step, as long as a table may be longer.
+fn doubled(step: usize) -> usize
+    requires { ⌜ (0 < step) × (step ≤ 1024) ⌝ }
+    ensures { λ r. ⌜ (0 < r) × (r ≤ 1024) ⌝ }
+{
+    if step < 512 {
+        return 2 * step;
+    }
+    step
+}
+
 // The last row with the pinned group's T at most the total, searched from near by growing steps between k, which has it, and top, which has not or is past the last.
 pub fn last_within(
     table: &[u64],
@@ -88,7 +99,7 @@ pub fn last_within(
     while 1 < top - k {
         let middle = row_between(k, top, near, step);
         let row = read_row(table, middle);
-        step += 2;
+        step = doubled(step);
         if pinned_total(row, low, high, v) <= total {
             k = middle;
         } else {

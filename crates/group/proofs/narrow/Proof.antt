@@ -66,8 +66,8 @@ returns-2 : tie.Need-returns-2
 returns-2 c =
     let n = c .before .before .before .before .before .before in
     let turn = n .narrow-core .ensures in (
-      answer-narrowed _ _ _ _ (passed (n .before .before .before)) (turn .0) (c .enum-told2 .given .1),
-      (after-narrowed _ _ _ (c .enum-told2 .given .1) (turn .1 .0), after-narrowed _ _ _ (c .enum-told2 .given .1) (turn .1 .1)),
+      answer-narrowed _ _ _ _ (passed (n .before .before .before)) (turn .answer) (c .enum-told2 .given .1),
+      (after-narrowed _ _ _ (c .enum-told2 .given .1) (turn .lowsAre), after-narrowed _ _ _ (c .enum-told2 .given .1) (turn .highsAre)),
     )
 
 same-length-5 : tie.Need-same-length-5
@@ -81,8 +81,8 @@ returns-3 c =
     let m = c .before in
     let n = m .before .before .before .before .before .before in
     let turn = n .narrow-core .ensures in (
-      answer-refused _ _ _ _ (passed (n .before .before .before)) (turn .0) (m .number .given .1),
-      (after-refused _ _ _ (m .number .given .1) (turn .1 .0), after-refused _ _ _ (m .number .given .1) (turn .1 .1)),
+      answer-refused _ _ _ _ (passed (n .before .before .before)) (turn .answer) (m .number .given .1),
+      (after-refused _ _ _ (m .number .given .1) (turn .lowsAre), after-refused _ _ _ (m .number .given .1) (turn .highsAre)),
     )
 
 pub narrow-spec : {M : Type 1} → statement M

@@ -45,7 +45,11 @@ returns : tie.Need-returns
 unfolding turnOf
 returns c =
     let s = start (c .before .before .before .before) in
-    (rw (shares-had (s .pre .0), ← c .before .has-plan .ensures, not-true (c .before .has-plan .result) (c .if1 .taken)), (refl, refl))
+    record {
+      answer = rw (shares-had (s .pre .0), ← c .before .has-plan .ensures, not-true (c .before .has-plan .result) (c .if1 .taken));
+      lowsAre = refl;
+      highsAre = refl;
+    }
 
 -- the group has a plan
 module _ (c : tie.Else1) where
@@ -100,7 +104,11 @@ returns-2 c =
     let last = c .before .before in
     let first = last .before .before .before .before .before in
     let members = first .before .before .before .before .before .before .before in
-    (sym (found-turn _ _ _ _ (planned (found members) .found)), (first .copy .ensures ∙ members .narrow-members .ensures .0, last .copy2 .ensures ∙ members .narrow-members .ensures .1))
+    record {
+      answer = sym (found-turn _ _ _ _ (planned (found members) .found));
+      lowsAre = first .copy .ensures ∙ members .narrow-members .ensures .0;
+      highsAre = last .copy2 .ensures ∙ members .narrow-members .ensures .1;
+    }
 
 pub narrow-on-spec : {M : Type 1} → statement M
 narrow-on-spec =

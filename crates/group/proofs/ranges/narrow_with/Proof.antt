@@ -21,7 +21,11 @@ same-length-2 c = search needs
 
 returns : tie.Need-returns
 unfolding turnOf
-returns c = (rw (← c .before .has-shares .ensures, not-true (c .before .has-shares .result) (c .if1 .taken)), (refl, refl))
+returns c = record {
+  answer = rw (← c .before .has-shares .ensures, not-true (c .before .has-shares .result) (c .if1 .taken));
+  lowsAre = refl;
+  highsAre = refl;
+}
 
 -- shares exist
 module _ (c : tie.Else1) where

@@ -18,7 +18,7 @@ record Between (table : List ℕ) (last low high v total k top : ℕ) : Type 0 w
 
 abbrev Inv-loop : tie.InvT-loop
 Inv-loop table last low high v total near k₀ top₀ step₀ k top step =
-    Between table last low high v total k top × (0 < step) × (step + 2 * (top - k) ≤ 2 * last + 3)
+    Between table last low high v total k top × (0 < step) × (step ≤ 1024)
 
 abbrev μ-loop : tie.MeasureT-loop
 μ-loop table last low high v total near k₀ top₀ step₀ k top step = top - k
@@ -39,12 +39,12 @@ row-between-requires c κs = search needs
 read-row-requires : tie.Need-read-row-requires Inv-loop μ-loop
 read-row-requires c κs = search needs
 
-add-step : tie.Need-add-step Inv-loop μ-loop
-add-step c = search needs
+doubled-requires : tie.Need-doubled-requires Inv-loop μ-loop
+doubled-requires c κs = search needs
 
 pinned-total-requires : tie.Need-pinned-total-requires Inv-loop μ-loop
 pinned-total-requires c κs =
-    rw (c .read-row .ensures) (c .before .before .before .before .before .pre .0 .rows _ (omega arith))
+    rw (c .before .read-row .ensures) (c .before .before .before .before .before .before .pre .0 .rows _ (omega arith))
 
 loop-less : tie.Need-loop-less Inv-loop μ-loop
 loop-less c = search needs
@@ -54,8 +54,8 @@ loop-again c = (
   record {
     apart = omega arith;
     upTo = omega arith;
-    holds = rw (c .before .pinned-total .ensures, c .before .before .read-row .ensures) at (c .if1 .taken);
-    fails = c .before .before .before .before .before .loop .inv .0 .fails;
+    holds = rw (c .before .pinned-total .ensures, c .before .before .before .read-row .ensures) at (c .if1 .taken);
+    fails = c .before .before .before .before .before .before .loop .inv .0 .fails;
   },
   omega arith,
   omega arith,
@@ -69,8 +69,8 @@ loop-again-2 c = (
   record {
     apart = omega arith;
     upTo = omega arith;
-    holds = c .before .before .before .before .before .loop .inv .0 .holds;
-    fails = λ h. rw (c .before .pinned-total .ensures, c .before .before .read-row .ensures) at (c .if1 .left);
+    holds = c .before .before .before .before .before .before .loop .inv .0 .holds;
+    fails = λ h. rw (c .before .pinned-total .ensures, c .before .before .before .read-row .ensures) at (c .if1 .left);
   },
   omega arith,
   omega arith,
@@ -93,7 +93,7 @@ last-within-spec =
     sub-loop
     row-between-requires
     read-row-requires
-    add-step
+    doubled-requires
     pinned-total-requires
     loop-less
     loop-again

@@ -57,7 +57,7 @@ returns c =
     let answer = c .before .before .before .before .before .before in
     let entry = answer .before in
     turn-refused (table entry) (group entry) (lows-gathered entry .gather .ensures) (highs-gathered entry .gather2 .ensures)
-    (answer .narrow-core .result) (answer .narrow-core .ensures .0)
+    (answer .narrow-core .result) (answer .narrow-core .ensures .answer)
     (c .enum-told2 .given .0 .0) (c .enum-told2 .given .1) _
 
 scatter-requires : tie.Need-scatter-requires
@@ -91,8 +91,8 @@ returns-2 c =
     let answer = c .before .before .before .before .before .before .before .before .before .before .before .before .before .before .before .before in
     let entry = answer .before in
     turn-narrowed (table entry) (group entry) (lows-gathered entry .gather .ensures) (highs-gathered entry .gather2 .ensures)
-    (answer .narrow-core .result) (answer .narrow-core .ensures .0) (c .before .before .before .before .before .before .before .before .before .before .enum-told .given .1)
-    (answer .narrow-core .ensures .1 .0) (answer .narrow-core .ensures .1 .1)
+    (answer .narrow-core .result) (answer .narrow-core .ensures .answer) (c .before .before .before .before .before .before .before .before .before .before .enum-told .given .1)
+    (answer .narrow-core .ensures .lowsAre) (answer .narrow-core .ensures .highsAre)
     (c .before .before .before .before .before .before .before .scatter .ensures) (c .before .before .scatter2 .ensures)
 
 pub narrow-members-spec : {M : Type 1} → statement M
