@@ -191,7 +191,7 @@ fn narrow_within(
     )
 }
 
-// The same for a group of at most 16 members, with small arrays: large ones would take longer to clear than the rest takes.
+// The same for a group of at most 16 members, with small arrays: clearing large ones would be much of its time.
 fn narrow_few(lows: &mut [u64], highs: &mut [u64], total: u64, limits: Limits) -> Turn
     requires { ⌜ Sound (now lows) (now highs) ⌝ }
     requires { ⌜ length (now lows) ≤ 16 ⌝ }
