@@ -2,13 +2,13 @@
 
 use crate::chart::{svg, Line, Panel, Scale};
 use crate::jobs::Tightness;
-use crate::planners::{BISECTION, GECODE, GECODE_ALONE, PLANNER, PROBES, ROWS};
+use crate::planners::{BISECTION, GECODE, GECODE_ALONE, PLANNER, ROWS};
 use crate::table::{digits, Table};
 use crate::work::narrow::Timed;
 use crate::work::paper::{Row, FILTERS, MAXIMA};
 
 /// Who narrows, in the charts' order.
-const NARROWING: [&str; 6] = [PLANNER, BISECTION, PROBES, ROWS, GECODE, GECODE_ALONE];
+const NARROWING: [&str; 5] = [PLANNER, BISECTION, ROWS, GECODE, GECODE_ALONE];
 
 /// The points of a contender: members and microseconds, under tight limits.
 fn points(timed: &[Timed], name: &str, first: bool) -> Vec<(f64, f64)> {

@@ -1,7 +1,7 @@
 //! The goals of the planner's speed, each with its figure in this run; a goal is left out where nothing was measured.
 
 use crate::jobs::Tightness;
-use crate::planners::{BISECTION, GECODE, PLANNER, SAME_WAY};
+use crate::planners::{BISECTION, GECODE, PLANNER, ROWS};
 use crate::table::{digits, Table};
 use crate::timing::Times;
 use crate::work::narrow::Timed;
@@ -58,14 +58,14 @@ fn goals(results: &Results) -> Vec<Goal> {
         goal("levelling, planner / plain Rust, greatest of all sizes", worst(level.iter(), BISECTION), true, 1.2),
         goal(
             "narrowing, planner / plain Rust of the same way, greatest of all rows",
-            worst(narrowing(), SAME_WAY),
+            worst(narrowing(), ROWS),
             true,
             1.2,
         ),
         goal("reading, planner / plain Rust, greatest of all texts", worst(read.iter(), BISECTION), true, 1.2),
         goal(
             "settling, planner / plain Rust of the same way, greatest of all jobs",
-            worst(settling(), SAME_WAY),
+            worst(settling(), ROWS),
             true,
             1.2,
         ),

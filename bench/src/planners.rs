@@ -10,17 +10,13 @@ use danivomel_tests::planner;
 pub const PLANNER: &str = "planner";
 /// The independent planner of tests/, in plain Rust: ends by bisection, each step a walk over the group.
 pub const BISECTION: &str = "plain Rust, bisection";
-/// The same in plain Rust with the bounds sorted once: ends by bisection over values, each step a look-up.
-pub const PROBES: &str = "plain Rust, breakpoints";
-/// The same with ends by bisection over the bounds first, each step of constant cost.
+/// The same in plain Rust the way that the proved planner goes: the bounds sorted once, ends by bisection over the rows and
+/// then over the values of one row.
 pub const ROWS: &str = "plain Rust, rows";
 /// Gecode with the figures posted about the mean: making the variables, posting and propagating.
 pub const GECODE: &str = "Gecode";
 /// Of that, the propagation alone.
 pub const GECODE_ALONE: &str = "Gecode, propagation alone";
-
-/// The plain Rust that goes the way of the proved planner's narrowing. To change with it.
-pub const SAME_WAY: &str = PROBES;
 
 /// Who levels.
 pub const LEVELS: &[(&str, Level)] = &[
@@ -32,8 +28,7 @@ pub const LEVELS: &[(&str, Level)] = &[
 /// Who narrows.
 pub const NARROWS: &[(&str, Narrow)] = &[
     (BISECTION, independent::narrow),
-    (PROBES, plain::narrow_by_probes),
-    (ROWS, plain::narrow_by_rows),
+    (ROWS, plain::narrow),
     #[cfg(feature = "narrow")]
     (PLANNER, planner::narrow),
 ];
@@ -48,8 +43,7 @@ pub const READS: &[(&str, Read)] = &[
 /// Who settles.
 pub const SETTLES: &[(&str, Settle)] = &[
     (BISECTION, independent::settle),
-    (PROBES, plain::settle_by_probes),
-    (ROWS, plain::settle_by_rows),
+    (ROWS, plain::settle),
     #[cfg(feature = "settle")]
     (PLANNER, planner::settle),
 ];

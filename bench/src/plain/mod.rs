@@ -1,8 +1,7 @@
-//! Narrowing in plain Rust by breakpoints, with two ways to look for the ends of a range; same answers as the independent
-//! planner, which walks the group at each step. And settling with them.
+//! Narrowing in plain Rust the way that the proved planner goes, by rows; same answers as the independent planner, which
+//! walks the group at each step. And settling with it.
 
 mod breakpoints;
-mod probes;
 mod rows;
 
 use breakpoints::{Member, Room, Table};
@@ -11,54 +10,27 @@ use danivomel_tests::independent::level::{clamp, has_shares};
 use danivomel_tests::independent::narrow::check_lists;
 use danivomel_tests::independent::settle::settle_job;
 
-/// Narrows, looking for each end by bisection over values.
-pub fn narrow_by_probes(lows: &mut [u64], highs: &mut [u64], total: u64, limits: Limits) -> Result<(), Refusal> {
+/// Narrows by rows.
+pub fn narrow(lows: &mut [u64], highs: &mut [u64], total: u64, limits: Limits) -> Result<(), Refusal> {
     check_lists(lows, highs, total, limits)?;
-    members_by_probes(lows, highs, total, limits).map_err(|number| Refusal { number, place: 0 })
-}
-
-/// Narrows, looking for each end by bisection over rows, and then over the values between two rows.
-pub fn narrow_by_rows(lows: &mut [u64], highs: &mut [u64], total: u64, limits: Limits) -> Result<(), Refusal> {
-    check_lists(lows, highs, total, limits)?;
-    members_by_rows(lows, highs, total, limits).map_err(|number| Refusal { number, place: 0 })
-}
-
-/// Settles by probes.
-pub fn settle_by_probes(text: &[u8], table: &mut [Range], scratch: &mut [u64]) -> Result<u64, Unsettled> {
-    settle_job(text, table, scratch.len(), members_by_probes).map(|(_, passes)| passes)
+    narrow_members(lows, highs, total, limits).map_err(|number| Refusal { number, place: 0 })
 }
 
 /// Settles by rows.
-pub fn settle_by_rows(text: &[u8], table: &mut [Range], scratch: &mut [u64]) -> Result<u64, Unsettled> {
-    settle_job(text, table, scratch.len(), members_by_rows).map(|(_, passes)| passes)
-}
-
-/// Narrows ranges that were checked, by probes.
-fn members_by_probes(lows: &mut [u64], highs: &mut [u64], total: u64, limits: Limits) -> Result<(), u64> {
-    narrow_members(lows, highs, total, limits, probes::ends)
-}
-
-/// Narrows ranges that were checked, by rows.
-fn members_by_rows(lows: &mut [u64], highs: &mut [u64], total: u64, limits: Limits) -> Result<(), u64> {
-    narrow_members(lows, highs, total, limits, rows::ends)
+pub fn settle(text: &[u8], table: &mut [Range], scratch: &mut [u64]) -> Result<u64, Unsettled> {
+    settle_job(text, table, scratch.len(), narrow_members).map(|(_, passes)| passes)
 }
 
 /// Narrows ranges that were checked; answers 11 or 12 where there is no plan, and then changes nothing. Few members get
 /// little room, which is sooner cleared.
-fn narrow_members(
-    lows: &mut [u64],
-    highs: &mut [u64],
-    total: u64,
-    limits: Limits,
-    ends: impl Fn(&Table, Member) -> (u64, u64),
-) -> Result<(), u64> {
+fn narrow_members(lows: &mut [u64], highs: &mut [u64], total: u64, limits: Limits) -> Result<(), u64> {
     if !has_shares(lows, highs, total) {
         return Err(11);
     }
     if lows.len() <= 16 {
-        narrow_within(lows, highs, total, limits, ends, &mut Room::<16, 32>::new())
+        narrow_within(lows, highs, total, limits, &mut Room::<16, 32>::new())
     } else {
-        narrow_within(lows, highs, total, limits, ends, &mut Room::<256, 512>::new())
+        narrow_within(lows, highs, total, limits, &mut Room::<256, 512>::new())
     }
 }
 
@@ -68,7 +40,6 @@ fn narrow_within<const N: usize, const R: usize>(
     highs: &mut [u64],
     total: u64,
     limits: Limits,
-    ends: impl Fn(&Table, Member) -> (u64, u64),
     room: &mut Room<N, R>,
 ) -> Result<(), u64> {
     let table = Table::of(lows, highs, total, limits, room);
@@ -77,7 +48,7 @@ fn narrow_within<const N: usize, const R: usize>(
         let more = u64::from(left > 0 && *low <= level && level < *high);
         let share = clamp(*low, *high, level) + more;
         left -= more;
-        (*low, *high) = ends(&table, Member { low: *low, high: *high, share });
+        (*low, *high) = rows::ends(&table, Member { low: *low, high: *high, share });
     }
     Ok(())
 }

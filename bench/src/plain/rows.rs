@@ -1,62 +1,61 @@
-//! The ends of a member's range by rows: an end out of reach is moved to the farthest value that the others can make up
-//! for; then bisection over the rows at which the others can be, each tried in a constant number of steps, and then over
-//! the values that keep them between two rows.
+//! The ends of a member's range by rows, as the proved planner finds them: an end out of reach is moved to the nearest value
+//! that the others can make up for; then bisection over the rows at which the others can be, and over the values of one row.
 
 use super::breakpoints::{Member, Row, Table};
 
 /// The least and the greatest value of the member that some plan takes.
 pub fn ends(table: &Table, member: Member) -> (u64, u64) {
-    (least(table, member), greatest(table, member))
+    (end(table, member, member.low), end(table, member, member.high))
 }
 
-/// The least value: the others rise from the levelled row on.
-fn least(table: &Table, member: Member) -> u64 {
-    let rest = |row: &Row| table.rest(row, member);
-    let last = table.rows.len() - 1;
-    let end = member.low.max(table.total.saturating_sub(rest(&table.rows[last])));
-    let far = table.near + table.rows[table.near..].partition_point(|row| rest(row) <= table.total - end) - 1;
-    if table.met_with(table.others(far, member), end) {
-        return end;
-    }
-    let (mut met, mut unmet) = (table.near, far + 1);
-    while unmet - met > 1 {
-        let middle = (met + unmet) / 2;
-        if table.met_at(table.others(middle, member)) {
-            met = middle;
+/// The last row at which the others have no more than the member's value leaves them, searched from near on.
+fn row_of(table: &Table, member: Member, value: u64, near: usize) -> usize {
+    let (mut row, mut top, mut step) = (0, table.rows.len(), 1);
+    while top - row > 1 {
+        let middle = match top - row {
+            gap if gap <= step => row + gap / 2,
+            _ if near <= row => row + step,
+            _ if top <= near => top - step,
+            _ => near,
+        };
+        step *= 2;
+        if table.rest(&table.rows[middle], member) + value <= table.total {
+            row = middle;
         } else {
-            unmet = middle;
+            top = middle;
         }
     }
-    let value = |row: usize| table.total - rest(&table.rows[row]);
-    let found = if met == table.near { member.share } else { value(met) };
-    let untaken = if unmet > far { end } else { value(unmet) };
-    between(table, table.others(met, member), found, untaken)
+    row
 }
 
-/// The greatest value: the others fall from the levelled row on.
-fn greatest(table: &Table, member: Member) -> u64 {
-    let rest = |row: &Row| table.rest(row, member);
-    let end = member.high.min(table.total - rest(&table.rows[0]));
-    let far = table.rows[..=table.near].partition_point(|row| rest(row) <= table.total - end) - 1;
-    if table.met_with(table.others(far, member), end) {
-        return end;
+/// The value nearest to one end of the member's range that some plan takes.
+fn end(table: &Table, member: Member, end: u64) -> u64 {
+    let mut untaken = table.into_reach(member, end);
+    let mut far = row_of(table, member, untaken, table.near);
+    if table.met_with(table.others(far, member), untaken) {
+        return untaken;
     }
-    let (mut unmet, mut met) = (far, table.near + 1);
-    while met - unmet > 1 {
-        let middle = (met + unmet) / 2;
-        if table.met_at(table.others(middle, member)) {
-            met = middle;
+    let mut found = member.share;
+    let mut own = row_of(table, member, found, table.near);
+    if untaken < found {
+        far += 1;
+    } else {
+        own += 1;
+    }
+    while far.abs_diff(own) > 1 {
+        let middle = (far + own) / 2;
+        let others = table.others(middle, member);
+        let value = table.total - others.sums.total;
+        if table.met_at(others) {
+            (found, own) = (value, middle);
         } else {
-            unmet = middle;
+            (untaken, far) = (value, middle);
         }
     }
-    let value = |row: usize| table.total - rest(&table.rows[row]);
-    let found = if met > table.near { member.share } else { value(met) };
-    let untaken = if unmet == far { end } else { value(unmet) };
-    between(table, table.others(unmet, member), found, untaken)
+    between(table, table.others(far.min(own), member), found, untaken)
 }
 
-/// The value nearest to an untaken one that some plan takes, the others being between their row and the next one.
+/// The value nearest to an untaken one that some plan takes, both of one row.
 fn between(table: &Table, others: Row, mut found: u64, mut untaken: u64) -> u64 {
     while found.abs_diff(untaken) > 1 {
         let middle = (found + untaken) / 2;

@@ -64,7 +64,7 @@ pub fn run() -> Table {
 fn narrowed(case: &GroupCase) -> GroupCase {
     let (mut after, mut expected) = (case.clone(), case.clone());
     let (name, narrow) = exact();
-    let answer = plain::narrow_by_probes(&mut expected.lows, &mut expected.highs, case.total, case.limits);
+    let answer = plain::narrow(&mut expected.lows, &mut expected.highs, case.total, case.limits);
     same(name, "narrowing", narrow(&mut after.lows, &mut after.highs, case.total, case.limits), answer);
     same(name, "narrowed ranges", &after, &expected);
     after

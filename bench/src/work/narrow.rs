@@ -3,7 +3,7 @@
 use crate::check::{covers, same};
 use crate::gecode::{self, Form, Outcome, Posted, Problem};
 use crate::jobs::{groups_of, Tightness, COMMON, SIZES};
-use crate::planners::{BISECTION, GECODE, GECODE_ALONE, NARROWS, PLANNER, PROBES, ROWS, SAME_WAY};
+use crate::planners::{BISECTION, GECODE, GECODE_ALONE, NARROWS, PLANNER, ROWS};
 use crate::table::{digits, Table};
 use crate::timing::{in_turn, Contender, Times};
 use crate::work::lone;
@@ -28,7 +28,6 @@ pub fn run() -> (Table, Vec<Timed>) {
         "call",
         "planner, µs",
         "plain Rust, bisection, µs",
-        "plain Rust, breakpoints, µs",
         "plain Rust, rows, µs",
         "Gecode, µs",
         "Gecode, propagation alone, µs",
@@ -43,7 +42,7 @@ pub fn run() -> (Table, Vec<Timed>) {
             let mut row = row(n, tightness, first, &times);
             row.push(digits(times.of(GECODE)));
             row.push(digits(times.of(GECODE_ALONE)));
-            row.push(digits(times.ratio(PLANNER, SAME_WAY)));
+            row.push(digits(times.ratio(PLANNER, ROWS)));
             row.push(digits(times.ratio(PLANNER, GECODE)));
             table.add(row);
             all.push(Timed { n, tightness, first, times });
@@ -60,7 +59,6 @@ pub fn run_wide() -> Table {
         "call",
         "planner, µs",
         "plain Rust, bisection, µs",
-        "plain Rust, breakpoints, µs",
         "plain Rust, rows, µs",
         "planner / plain Rust, same way",
     ];
@@ -69,7 +67,7 @@ pub fn run_wide() -> Table {
         for (tightness, first) in kinds() {
             let times = measure(n, GREATEST_SHARE, tightness, first, false);
             let mut row = row(n, tightness, first, &times);
-            row.push(digits(times.ratio(PLANNER, SAME_WAY)));
+            row.push(digits(times.ratio(PLANNER, ROWS)));
             table.add(row);
         }
     }
@@ -90,7 +88,6 @@ fn row(n: usize, tightness: Tightness, first: bool, times: &Times) -> Vec<String
         if first { "first" } else { "quiet" }.to_string(),
         digits(times.of(PLANNER)),
         digits(times.of(BISECTION)),
-        digits(times.of(PROBES)),
         digits(times.of(ROWS)),
     ]
 }

@@ -131,7 +131,7 @@ type Filter<'a> = &'a dyn Fn(&mut [u64], &mut [u64]) -> bool;
 /// Lets every filter work on one instance.
 fn try_one(row: &mut Row, case: &GroupCase, limit: u64) {
     let mut expected = case.clone();
-    let answer = plain::narrow_by_probes(&mut expected.lows, &mut expected.highs, case.total, case.limits);
+    let answer = plain::narrow(&mut expected.lows, &mut expected.highs, case.total, case.limits);
     let expected = answer.is_ok().then_some(expected);
     let posted = Posted::of(&[lone(case)]);
     let filters: [Filter; FILTERS.len()] = [

@@ -3,7 +3,7 @@
 use crate::check::{covers, same};
 use crate::gecode::{self, Form, Outcome, Posted, Problem};
 use crate::jobs::{job, slow_job};
-use crate::planners::{BISECTION, GECODE, GECODE_ALONE, PLANNER, PROBES, ROWS, SAME_WAY, SETTLES};
+use crate::planners::{BISECTION, GECODE, GECODE_ALONE, PLANNER, ROWS, SETTLES};
 use crate::table::{digits, Table};
 use crate::timing::{in_turn, Contender, Times};
 use crate::work::values;
@@ -25,13 +25,12 @@ struct Case {
 }
 
 /// The columns of the table.
-const HEAD: [&str; 13] = [
+const HEAD: [&str; 12] = [
     "job",
     "answer",
     "turns",
     "planner, µs",
     "plain Rust, bisection, µs",
-    "plain Rust, breakpoints, µs",
     "plain Rust, rows, µs",
     "Gecode, µs",
     "Gecode, propagation alone, µs",
@@ -59,11 +58,10 @@ pub fn run() -> (Table, Vec<(String, Times)>) {
             turns.to_string(),
             digits(times.of(PLANNER)),
             digits(times.of(BISECTION)),
-            digits(times.of(PROBES)),
             digits(times.of(ROWS)),
             digits(times.of(GECODE)),
             digits(times.of(GECODE_ALONE)),
-            digits(times.ratio(PLANNER, SAME_WAY)),
+            digits(times.ratio(PLANNER, ROWS)),
             a_visit(times.of(PLANNER)),
             a_visit(times.of(ROWS)),
             left,

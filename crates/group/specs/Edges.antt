@@ -21,6 +21,10 @@ pub record Straddle (test : ℕ → Bool) (outside inside outer inner : ℕ) : T
   pub rising : outside < inside → (outside ≤ outer) × (outer < inner) × (inner ≤ inside)
   pub falling : inside < outside → (inside ≤ inner) × (inner < outer) × (outer ≤ outside)
 
+-- so they differ
+pub straddle-differ : {test : ℕ → Bool} {outside inside outer inner : ℕ} → Straddle test outside inside outer inner → outer ≢ inner
+straddle-differ {test} held same = clash (held .passes) (ap test (sym same) ∙ held .fails)
+
 -- the two values themselves, at the start
 pub straddle-start : (test : ℕ → Bool) (outside inside : ℕ) → test outside ≡ false → test inside ≡ true
     → Straddle test outside inside outside inside
@@ -106,22 +110,50 @@ amid-nearer {outer} {inner} far small-outer small-inner amid =
       | no more ↦ let (after, before) = amid .falling (omega arith) in (omega arith, omega arith, omega arith)
     ]
 
-module _ (test : ℕ → Bool) (outside inside outer inner middle : ℕ) (held : Straddle test outside inside outer inner)
-    (amid : Amid outer inner middle) where
+-- from one value to another, both ends counted
+pub record Between (outer inner v : ℕ) : Type 0 where
+  pub rising : outer < inner → (outer ≤ v) × (v ≤ inner)
+  pub falling : inner < outer → (inner ≤ v) × (v ≤ outer)
+
+pub amid-between : {outer inner v : ℕ} → Amid outer inner v → Between outer inner v
+amid-between amid = record {
+  rising = λ less. let (a, b) = amid .rising less in (omega arith, omega arith);
+  falling = λ more. let (a, b) = amid .falling more in (omega arith, omega arith);
+}
+
+module _ (test : ℕ → Bool) (outside inside outer inner v : ℕ) (held : Straddle test outside inside outer inner) (between : Between outer inner v) where
   -- a value between that passes takes inner's place
-  pub straddle-in : test middle ≡ true → Straddle test outside inside outer middle
-  straddle-in passes = record {
-    fails = held .fails;
-    passes = passes;
-    rising = λ h. let (a, b, c) = held .rising h in omega (arith, amid .rising b);
-    falling = λ h. let (a, b, c) = held .falling h in omega (arith, amid .falling b);
-  }
+  pub straddle-in : test v ≡ true → Straddle test outside inside outer v
+  straddle-in passes =
+      let other : v ≢ outer = (λ same. clash (ap test (sym same) ∙ passes) (held .fails)) in
+      record {
+        fails = held .fails;
+        passes = passes;
+        rising = λ h. let (a, b, c) = held .rising h in omega (arith, between .rising b, other);
+        falling = λ h. let (a, b, c) = held .falling h in omega (arith, between .falling b, other);
+      }
 
   -- and one that fails takes outer's
-  pub straddle-out : test middle ≡ false → Straddle test outside inside middle inner
-  straddle-out fails = record {
-    fails = fails;
-    passes = held .passes;
-    rising = λ h. let (a, b, c) = held .rising h in omega (arith, amid .rising b);
-    falling = λ h. let (a, b, c) = held .falling h in omega (arith, amid .falling b);
-  }
+  pub straddle-out : test v ≡ false → Straddle test outside inside v inner
+  straddle-out fails =
+      let other : v ≢ inner = (λ same. clash (held .passes) (ap test (sym same) ∙ fails)) in
+      record {
+        fails = fails;
+        passes = held .passes;
+        rising = λ h. let (a, b, c) = held .rising h in omega (arith, between .rising b, other);
+        falling = λ h. let (a, b, c) = held .falling h in omega (arith, between .falling b, other);
+      }
+
+-- an edge between two values that straddle is one between those outside them
+pub edge-outward : {test : ℕ → Bool} {outside inside outer inner r : ℕ} → Straddle test outside inside outer inner
+    → Edge test outer inner r → Edge test outside inside r
+edge-outward held edge = record {
+  outer = edge .outer;
+  straddle = record {
+    fails = edge .straddle .fails;
+    passes = edge .straddle .passes;
+    rising = λ h. let (a, b, c) = held .rising h in omega (arith, edge .straddle .rising b);
+    falling = λ h. let (a, b, c) = held .falling h in omega (arith, edge .straddle .falling b);
+  };
+  near = edge .near;
+}

@@ -7,5 +7,6 @@ pub mod Passed
 pub mod Tabled
 pub mod Edges
 pub mod Reaching
+pub mod Flanks
 pub mod Ends
 pub mod Narrowing

@@ -24,6 +24,7 @@ ghost use Rattle.group.specs.Levelling.{levelledTo, levelling, planAfter
 ghost use Rattle.group.specs.Narrowing.{narrowing, listAfter};
 
 pub mod checks;
+mod ends;
 pub mod plans;
 pub mod ranges;
 pub mod shares;

@@ -1,5 +1,5 @@
 // Narrowing a group's ranges: a value stays exactly if the group pinned to it has a plan.
-use crate::plans::apart;
+use crate::ends::farthest_taken;
 use crate::plans::has_shares;
 use crate::shares::extra;
 use model::Limits;
@@ -7,79 +7,17 @@ use model::Turn;
 use probe::build::build;
 use probe::build::copy;
 use probe::pins::clamp;
-use probe::pins::into_reach;
 use probe::probing::Levelled;
 use probe::probing::has_plan;
 use probe::probing::level_on;
-use probe::probing::probe;
-ghost use mathlib.Core.Bool.{false};
 ghost use mathlib.Core.Path.{_≡_};
 ghost use Prim.Native.Nat.{_*_, _≤_};
 ghost use lib.ListN.{length, getD};
-ghost use Rattle.model.specs.Plans.{taken, narrowedLows, narrowedHighs};
-ghost use Rattle.probe.specs.Probes.{InReach, LevelledOn};
+ghost use Rattle.model.specs.Plans.{narrowedLows, narrowedHighs};
+ghost use Rattle.probe.specs.Probes.{LevelledOn};
 ghost use Rattle.group.specs.Sound.{Sound, HasShares};
 ghost use Rattle.group.specs.Narrowing.{Turned};
-ghost use Rattle.group.specs.Edges.{Edge, Reach, Approach};
 ghost use Rattle.group.specs.Tabled.{Tabled, HasPlan, Room, Space};
-
-// The value nearest to outside, which no plan gives member i, on the way from inside, which some plan does: by bisection,
-// each step looking for its row from that of the step before.
-fn edge(
-    lows: &[u64],
-    highs: &[u64],
-    table: &[u64],
-    total: u64,
-    limits: Limits,
-    i: usize,
-    outside: u64,
-    inside: u64,
-    near: usize,
-) -> u64
-    requires { ⌜ Approach (now lows) (now highs) (now table) total limits i outside inside ⌝ }
-    requires { ⌜ InReach (now table) (2 * length (now lows)) (getD (now lows) i 0) (getD (now highs) i 0) outside total ⌝ }
-    requires { ⌜ taken (now lows) (now highs) total limits i outside ≡ false ⌝ }
-    ensures { λ r. ⌜ Edge (taken (now (lows .entry)) (now (highs .entry)) total limits i) outside inside r ⌝ }
-{
-    let mut outer = outside;
-    let mut inner = inside;
-    let mut row = near;
-    while 1 < apart(outer, inner) {
-        let middle = (outer + inner) / 2;
-        let probed = probe(lows, highs, table, total, limits, i, middle, row);
-        row = probed.row;
-        if probed.taken {
-            inner = middle;
-        } else {
-            outer = middle;
-        }
-    }
-    inner
-}
-
-// How far from a share, which some plan gives member i, to an end of its range plans give it values.
-fn farthest_taken(
-    lows: &[u64],
-    highs: &[u64],
-    table: &[u64],
-    total: u64,
-    limits: Limits,
-    i: usize,
-    end: u64,
-    share: u64,
-    near: usize,
-) -> u64
-    requires { ⌜ Approach (now lows) (now highs) (now table) total limits i end share ⌝ }
-    ensures { λ r. ⌜ Reach (taken (now (lows .entry)) (now (highs .entry)) total limits i) end share r ⌝ }
-{
-    let nearest = into_reach(table, 2 * lows.len(), lows[i], highs[i], end, total);
-    let probed = probe(lows, highs, table, total, limits, i, nearest, near);
-    if probed.taken {
-        return nearest;
-    }
-    let row = probed.row;
-    edge(lows, highs, table, total, limits, i, nearest, share, row)
-}
 
 // Writes the narrowed lows over starts and the narrowed highs over stops.
 fn narrow_members(

@@ -105,7 +105,7 @@ abbrev pub Moving : List ℕ → List ℕ → ℕ → ℕ → ℕ → ℕ → Ty
 Moving lows highs m w a b = (f : ℕ → ℕ) (x : ℕ) → m ≤ x → x ≤ w
     → sumOf f (clamped lows highs x) + (a * f m + b * f x) ≡ sumOf f (clamped lows highs m) + (a * f x + b * f m)
 
-module _ (lows highs : List ℕ) (total m w a b : ℕ) (rises : m ≤ w) (next : totalAt lows highs m ≤ total) (past : total < totalAt lows highs w)
+module _ (lows highs : List ℕ) (total m w a b : ℕ) (rises : m ≤ w) (more : totalAt lows highs m < total) (upTo : total ≤ totalAt lows highs w)
     (sums : Moving lows highs m w a b) where
   -- so does T
   total-even : (x : ℕ) → m ≤ x → x ≤ w → totalAt lows highs x + (a * m + b * x) ≡ totalAt lows highs m + (a * x + b * m)
@@ -128,15 +128,19 @@ module _ (lows highs : List ℕ) (total m w a b : ℕ) (rises : m ≤ w) (next :
       let total-at : (k : ℕ) → m + k ≤ w → totalAt lows highs (m + k) ≡ totalAt lows highs m + c * k =
       (λ k upTo. omega (arith, rw (← moving) at (total-even (m + k) (omega arith) upTo))) in
       let (d, e) = le-dest rises in
-      let below : q < d = by-contra _ _ (λ none.
-      let less : d ≤ q = omega arith in omega (arith, rw e at (total-at d (omega arith)), mul-le-mul-left c less)) in
+      let inside : q ≤ d = by-contra _ _ (λ past.
+      let less : suc d ≤ q = omega arith in omega (arith, rw e at (total-at d (omega arith)), mul-le-mul-left c less)) in
       let here : totalAt lows highs (m + q) ≡ totalAt lows highs m + c * q = total-at q (omega arith) in
       let suc-out : m + suc q ≡ suc (m + q) = omega arith in
-      let above : totalAt lows highs (suc (m + q)) ≡ totalAt lows highs m + c * suc q = rw suc-out at (total-at (suc q) (omega arith)) in
+      let fits : r ≤ totalAt lows highs (suc (m + q)) - totalAt lows highs (m + q) =
+      elim (decLt q d) [
+        | yes less ↦ omega (arith, rw suc-out at (total-at (suc q) (omega arith)), here)
+        | no none ↦ let same : q ≡ d = omega arith in omega (arith, rw e at (total-at d (omega arith)), ap (λ (t : ℕ). c * t) same)
+      ] in
       record {
         share = omega arith;
         holds = omega arith;
-        fits = omega arith;
+        fits = fits;
         sums = λ f. even f (m + q) (omega arith) (omega arith);
       }
 

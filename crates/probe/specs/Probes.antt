@@ -31,11 +31,11 @@ pub record Probeable (table : List ℕ) (last low high v : ℕ) : Type 0 where
   pub room : 6 * last + 6 ≤ length table
   pub rows : (k : ℕ) → k ≤ last → Pinnable (rowAt table k) low high v
 
--- the last row with T at most the total
+-- a row with T at most the total, whose next row has at least the total
 pub record Found (table : List ℕ) (last low high v total k : ℕ) : Type 0 where
   pub upTo : k ≤ last
   pub holds : pinnedTotal (rowAt table k) low high v ≤ total
-  pub next : k < last → total < pinnedTotal (rowAt table (suc k)) low high v
+  pub next : k < last → total ≤ pinnedTotal (rowAt table (suc k)) low high v
 
 -- the other members can make up for v
 pub record InReach (table : List ℕ) (last low high v total : ℕ) : Type 0 where
@@ -100,10 +100,10 @@ module _ {lows highs table lows′ highs′ : List ℕ} {total low high v : ℕ}
       between : Span lows highs (row .mark) (next .mark) (row .lows) (row .highs)
       between = held .spans k (follows some)
 
-      below : totalAt lows′ highs′ (row .mark) ≤ total
-      below = rw (← pinned-total k (found .upTo)) (found .holds)
+      below : totalAt lows′ highs′ (row .mark) < total
+      below = rw (← pinned-total k (found .upTo)) (omega arith)
 
-      past : total < totalAt lows′ highs′ (next .mark)
+      past : total ≤ totalAt lows′ highs′ (next .mark)
       past = rw (← pinned-total (suc k) (follows some)) (found .next (follows some))
 
       -- and more lows than highs are passed, the pinned member aside

@@ -129,6 +129,15 @@ pub fn into_reach(table: &[u64], last: usize, low: u64, high: u64, v: u64, total
     v
 }
 
+// The value of a member where the others are at a row.
+pub fn value_at(row: Row, low: u64, high: u64, total: u64) -> u64
+    requires { ⌜ (low ≤ high) × (high ≤ 1_000_000) × (total ≤ 256_000_000) ⌝ }
+    requires { ⌜ row .total ≤ total + clamp low high (row .mark) ⌝ }
+    ensures { λ r. ⌜ pinnedTotal row low high r ≡ total ⌝ }
+{
+    total + clamp(low, high, row.mark) - row.total
+}
+
 // The level that the copies left over at a row reach.
 pub fn reach_from(row: Row, low: u64, high: u64, left: u64) -> Reach
     requires { ⌜ (0 < left → row .highs + growth low high (row .mark) < row .lows) ⌝ }

@@ -51,6 +51,27 @@ fn met_at(
     )
 }
 
+// Whether the group with member i pinned to v, which the others can make up for, has a plan, from the row below its level.
+pub fn taken_at(
+    lows: &[u64],
+    highs: &[u64],
+    table: &[u64],
+    total: u64,
+    limits: Limits,
+    i: usize,
+    v: u64,
+    row: usize,
+) -> bool
+    requires { ⌜ Sound (now lows) (now highs) total ⌝ }
+    requires { ⌜ Table (now lows) (now highs) total (now table) ⌝ }
+    requires { ⌜ (i < length (now lows)) × (v ≤ greatestShare) ⌝ }
+    requires { ⌜ InReach (now table) (2 * length (now lows)) (getD (now lows) i 0) (getD (now highs) i 0) v total ⌝ }
+    requires { ⌜ Found (now table) (2 * length (now lows)) (getD (now lows) i 0) (getD (now highs) i 0) v total row ⌝ }
+    ensures { λ r. ⌜ r ≡ taken (now (lows .entry)) (now (highs .entry)) total limits i v ⌝ }
+{
+    met_at(lows, highs, table, row, lows[i], highs[i], v, total, limits)
+}
+
 // Whether some plan takes a value, and the row below the level found for it.
 pub struct Probed {
     pub taken: bool,
@@ -70,10 +91,10 @@ pub fn probe(
 ) -> Probed
     requires { ⌜ Sound (now lows) (now highs) total ⌝ }
     requires { ⌜ Table (now lows) (now highs) total (now table) ⌝ }
-    requires { ⌜ i < length (now lows) ⌝ }
-    requires { ⌜ v ≤ greatestShare ⌝ }
+    requires { ⌜ (i < length (now lows)) × (v ≤ greatestShare) ⌝ }
     requires { ⌜ InReach (now table) (2 * length (now lows)) (getD (now lows) i 0) (getD (now highs) i 0) v total ⌝ }
     ensures { λ r. ⌜ r .taken ≡ taken (now (lows .entry)) (now (highs .entry)) total limits i v ⌝ }
+    ensures { λ r. ⌜ Found (now (table .entry)) (2 * length (now (lows .entry))) (getD (now (lows .entry)) i 0) (getD (now (highs .entry)) i 0) v total (r .row) ⌝ }
 {
     let low = lows[i];
     let high = highs[i];

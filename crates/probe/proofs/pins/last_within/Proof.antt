@@ -80,7 +80,7 @@ returns : tie.Need-returns Inv-loop μ-loop
 returns c =
     let inv = c .before .loop .inv .0 in
     let next : c .before .loop .top ≡ suc (c .before .loop .k) = omega arith in
-    record { upTo = omega arith; holds = inv .holds; next = λ more. rw next at (inv .fails (omega arith)) }
+    record { upTo = omega arith; holds = inv .holds; next = λ more. omega (arith, rw next at (inv .fails (omega arith))) }
 
 pub last-within-spec : {M : Type 1} → statement M
 last-within-spec =

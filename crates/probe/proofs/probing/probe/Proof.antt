@@ -19,7 +19,7 @@ module _ (s : tie.Start) where
   highs = s .args .highs .now
 
   pinned-there : Pin lows highs (getD lows (s .args .i) 0) (getD highs (s .args .i) 0) (s .args .v) (set lows (s .args .i) (s .args .v)) (set highs (s .args .i) (s .args .v))
-  pinned-there = pinned (s .pre .0 .ranges) (s .args .i) (s .args .v) (s .pre .1 .1 .0) (s .pre .1 .1 .1 .0)
+  pinned-there = pinned (s .pre .0 .ranges) (s .args .i) (s .args .v) (s .pre .1 .1 .0 .0) (s .pre .1 .1 .0 .1)
 
 mul-low : tie.Need-mul-low
 mul-low c = search needs
@@ -39,18 +39,21 @@ mul-last-within c = search needs
 last-within-requires : tie.Need-last-within-requires
 last-within-requires c κs =
     let s = c .before .before .before .before .before in
-    (probeable (s .pre .0) (s .pre .1 .0) (pinned-there s), s .pre .1 .1 .1 .1 .least)
+    (probeable (s .pre .0) (s .pre .1 .0) (pinned-there s), s .pre .1 .1 .1 .least)
 
 met-at-requires : tie.Need-met-at-requires
 met-at-requires c κs =
     let s = c .before .before .before .before .before .before in
-    (s .pre .0, (s .pre .1 .0, (record { pinnedLows = set (lows s) (s .args .i) (s .args .v); pinnedHighs = set (highs s) (s .args .i) (s .args .v); pin = pinned-there s }, (c .last-within .ensures, s .pre .1 .1 .1 .1 .greatest))))
+    (s .pre .0, (s .pre .1 .0, (record { pinnedLows = set (lows s) (s .args .i) (s .args .v); pinnedHighs = set (highs s) (s .args .i) (s .args .v); pin = pinned-there s }, (c .last-within .ensures, s .pre .1 .1 .1 .greatest))))
 
 returns : tie.Need-returns
 returns c =
     let s = c .before .before .before .before .before .before .before in
-    c .met-at .ensures .is (pinned-there s)
-    ∙ sym (decided (s .pre .0) (pinned-there s) (s .pre .1 .0) (s .args .limits) (s .pre .1 .1 .1 .1 .least) (s .pre .1 .1 .1 .1 .greatest))
+    let reach = s .pre .1 .1 .1 in (
+      c .met-at .ensures .is (pinned-there s)
+          ∙ sym (decided (s .pre .0) (pinned-there s) (s .pre .1 .0) (s .args .limits) (reach .least) (reach .greatest)),
+      c .before .last-within .ensures,
+    )
 
 pub probe-spec : {M : Type 1} → statement M
 probe-spec =

@@ -1,0 +1,56 @@
+-- The group with member i pinned to v has v's part in place of the member's own. Assumes nothing.
+use borrow.Author.Needs.{needs}
+use mathlib.Core.List.{List}
+use mathlib.Core.Path.{sym, _∙_}
+use Prim.Native.Nat.{ℕ}
+use lib.ListN.{getD, set}
+use Rattle.probe.specs.Pins.{Pin, pinned}
+use Rattle.probe.specs.Verdicts.{decided}
+use Rattle.probe.proofs.probing.taken_at.Statement.{statement}
+use Rattle.probe.proofs.probing.taken_at.Tie as tie
+
+-- member i pinned to v
+module _ (s : tie.Start) where
+  abbrev lows : List ℕ
+  lows = s .args .lows .now
+
+  abbrev highs : List ℕ
+  highs = s .args .highs .now
+
+  pinned-there : Pin lows highs (getD lows (s .args .i) 0) (getD highs (s .args .i) 0) (s .args .v) (set lows (s .args .i) (s .args .v)) (set highs (s .args .i) (s .args .v))
+  pinned-there = pinned (s .pre .0 .ranges) (s .args .i) (s .args .v) (s .pre .1 .1 .0 .0) (s .pre .1 .1 .0 .1)
+
+mul-met-at : tie.Need-mul-met-at
+mul-met-at c = search needs
+
+shared-slice-read-met-at : tie.Need-shared-slice-read-met-at
+shared-slice-read-met-at c = search needs
+
+mul-met-at-2 : tie.Need-mul-met-at-2
+mul-met-at-2 c = search needs
+
+shared-slice-read-met-at-2 : tie.Need-shared-slice-read-met-at-2
+shared-slice-read-met-at-2 c = search needs
+
+met-at-requires : tie.Need-met-at-requires
+met-at-requires c κs =
+    let s = c .before .before .before .before .before in
+    (s .pre .0, (s .pre .1 .0, (record { pinnedLows = set (lows s) (s .args .i) (s .args .v); pinnedHighs = set (highs s) (s .args .i) (s .args .v); pin = pinned-there s }, (s .pre .1 .1 .1 .1, s .pre .1 .1 .1 .0 .greatest))))
+
+returns : tie.Need-returns
+returns c =
+    let s = c .before .before .before .before .before .before in
+    let reach = s .pre .1 .1 .1 .0 in
+    c .met-at .ensures .is (pinned-there s)
+    ∙ sym (decided (s .pre .0) (pinned-there s) (s .pre .1 .0) (s .args .limits) (reach .least) (reach .greatest))
+
+pub taken-at-spec : {M : Type 1} → statement M
+taken-at-spec =
+    tie.close
+    (tie.spec
+    mul-met-at
+    shared-slice-read-met-at
+    mul-met-at-2
+    shared-slice-read-met-at-2
+    met-at-requires
+    returns)
