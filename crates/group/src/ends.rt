@@ -113,6 +113,40 @@ fn edge(
     inner
 }
 
+// The value nearest to outside that some plan gives member i, on the way from inside, which some plan does.
+fn edge_between(
+    lows: &[u64],
+    highs: &[u64],
+    table: &[u64],
+    total: u64,
+    limits: Limits,
+    i: usize,
+    outside: u64,
+    inside: u64,
+    outer_row: usize,
+    inner_row: usize,
+) -> u64
+    requires { ⌜ Approach (now lows) (now highs) (now table) total limits i outside inside ⌝ }
+    requires { ⌜ InReach (now table) (2 * length (now lows)) (getD (now lows) i 0) (getD (now highs) i 0) outside total ⌝ }
+    requires { ⌜ taken (now lows) (now highs) total limits i outside ≡ false ⌝ }
+    requires { ⌜ Flanked (now table) (2 * length (now lows)) (getD (now lows) i 0) (getD (now highs) i 0) total outside inside «outer_row» «inner_row» ⌝ }
+    ensures { λ r. ⌜ Edge (taken (now (lows .entry)) (now (highs .entry)) total limits i) outside inside r ⌝ }
+{
+    let gap = to_one_row(
+        lows,
+        highs,
+        table,
+        total,
+        limits,
+        i,
+        outside,
+        inside,
+        outer_row,
+        inner_row,
+    );
+    edge(lows, highs, table, total, limits, i, gap)
+}
+
 // How far from a share, which some plan gives member i, to an end of its range plans give it values; near is a row to
 // look at first.
 pub(crate) fn farthest_taken(
@@ -137,14 +171,23 @@ pub(crate) fn farthest_taken(
     if probed.taken {
         return nearest;
     }
-    let mut far = probed.row;
-    let mut own = last_within(table, last, low, high, share, total, near);
+    let far = probed.row;
+    let own = last_within(table, last, low, high, share, total, near);
     if nearest < share {
-        far += 1;
-    } else {
-        own += 1;
+        return edge_between(
+            lows,
+            highs,
+            table,
+            total,
+            limits,
+            i,
+            nearest,
+            share,
+            far + 1,
+            own,
+        );
     }
-    let gap = to_one_row(
+    edge_between(
         lows,
         highs,
         table,
@@ -154,7 +197,6 @@ pub(crate) fn farthest_taken(
         nearest,
         share,
         far,
-        own,
-    );
-    edge(lows, highs, table, total, limits, i, gap)
+        own + 1,
+    )
 }

@@ -2,14 +2,12 @@
 use borrow.Author.Needs.{needs}
 use native.Mathlib.Omega.{arith}
 use mathlib.Core.Bool.{false}
-use mathlib.Core.Logic.{_≢_, inl, inr}
+use mathlib.Core.Logic.{_≢_}
 use mathlib.Core.Path.{_≡_, sym, ap, _∙_}
-use Prim.Native.Nat.{_*_}
-use lib.ListN.{length, getD}
 use Rattle.model.specs.Plans.{taken}
 use Rattle.model.specs.Laws.Tests.{clash}
-use Rattle.group.specs.Edges.{Approach, nearest-reach, nearest-edge, edge-outward}
-use Rattle.group.specs.Flanks.{Flanked, flanks-rising, flanks-falling}
+use Rattle.group.specs.Edges.{Approach, nearest-reach, nearest-edge}
+use Rattle.group.specs.Flanks.{flanks-rising, flanks-falling}
 use Rattle.group.specs.Reaching.{Moved, probes, room, moved, share-reach}
 use Rattle.group.proofs.ends.farthest_taken.Statement.{statement}
 use Rattle.group.proofs.ends.farthest_taken.Tie as tie
@@ -70,41 +68,58 @@ module _ (c : tie.Else1) where
   differ : from .into-reach .result ≢ start from .args .share
   differ same = clash (way from .passes) (ap (taken (start from .args .lows .now) (start from .args .highs .now) (start from .args .total) (start from .args .limits) (start from .args .i)) (sym same) ∙ fails)
 
-add-far : tie.Need-add-far
-add-far c = search needs
+-- the way from the share to it
+module _ (e : tie.Else1) where
+  onward : Approach (start (from e) .args .lows .now) (start (from e) .args .highs .now) (start (from e) .args .table .now) (start (from e) .args .total) (start (from e) .args .limits) (start (from e) .args .i) (from e .into-reach .result) (start (from e) .args .share)
+  onward =
+      let w = way (from e) in
+      record { tabled = w .tabled; here = w .here; small = there (from e) .small; share-small = w .share-small; passes = w .passes }
 
-add-own : tie.Need-add-own
-add-own c = search needs
+add-edge-between : tie.Need-add-edge-between
+add-edge-between c = search needs
 
--- the rows flank both values, whichever is the greater
-flanked : (c : tie.Joined2)
-    → let s = start (from (c .before .before)) in
-    Flanked (s .args .table .now) (2 * length (s .args .lows .now)) (getD (s .args .lows .now) (s .args .i) 0) (getD (s .args .highs .now) (s .args .i) 0) (s .args .total)
-    (from (c .before .before) .into-reach .result) (s .args .share) (c .if2 .far) (c .if2 .own)
-flanked c =
+edge-between-requires : tie.Need-edge-between-requires
+edge-between-requires c κs =
     let l = c .before in
     let e = l .before in
-    let w = way (from e) in
-    let t = there (from e) in
-    elim (c .if2 .came) [
-      | inl (test, far, own) ↦ rw (far, own) (flanks-rising (w .tabled) _ (w .here) (t .small) (w .share-small) (test .taken) (e .before .probe .ensures .1) (l .last-within .ensures))
-      | inr (test, far, own) ↦ rw (far, own) (flanks-falling (w .tabled) _ (w .here) (t .small) (w .share-small) (omega (arith, test .left, differ e)) (e .before .probe .ensures .1) (l .last-within .ensures))
-    ]
-
-to-one-row-requires : tie.Need-to-one-row-requires
-to-one-row-requires c κs =
-    let e = c .before .before in
-    let w = way (from e) in
-    let t = there (from e) in
-    (record { tabled = w .tabled; here = w .here; small = t .small; share-small = w .share-small; passes = w .passes }, (t .inReach, (fails e, flanked c)))
-
-edge-requires : tie.Need-edge-requires
-edge-requires c κs = c .to-one-row .ensures .passed
+    let w = way (from e) in (
+      onward e,
+      (
+        there (from e) .inReach,
+        (
+          fails e,
+          flanks-rising (w .tabled) _ (w .here) (there (from e) .small) (w .share-small) (c .if2 .taken) (e .before .probe .ensures .1) (l .last-within .ensures),
+        ),
+      ),
+    )
 
 returns-2 : tie.Need-returns-2
 returns-2 c =
-    let e = c .before .before .before .before in
-    nearest-edge (there (from e) .nearest) (fails e) (way (from e) .passes) (edge-outward (c .before .to-one-row .ensures .straddle) (c .edge .ensures))
+    let e = c .before .before .before in
+    nearest-edge (there (from e) .nearest) (fails e) (way (from e) .passes) (c .edge-between .ensures)
+
+add-edge-between-2 : tie.Need-add-edge-between-2
+add-edge-between-2 c = search needs
+
+edge-between-requires-2 : tie.Need-edge-between-requires-2
+edge-between-requires-2 c κs =
+    let l = c .before in
+    let e = l .before in
+    let w = way (from e) in (
+      onward e,
+      (
+        there (from e) .inReach,
+        (
+          fails e,
+          flanks-falling (w .tabled) _ (w .here) (there (from e) .small) (w .share-small) (omega (arith, c .if2 .left, differ e)) (e .before .probe .ensures .1) (l .last-within .ensures),
+        ),
+      ),
+    )
+
+returns-3 : tie.Need-returns-3
+returns-3 c =
+    let e = c .before .before .before in
+    nearest-edge (there (from e) .nearest) (fails e) (way (from e) .passes) (c .edge-between2 .ensures)
 
 pub farthest-taken-spec : {M : Type 1} → statement M
 farthest-taken-spec =
@@ -119,8 +134,9 @@ farthest-taken-spec =
     probe-requires
     returns
     last-within-requires
-    add-far
-    add-own
-    to-one-row-requires
-    edge-requires
-    returns-2)
+    add-edge-between
+    edge-between-requires
+    returns-2
+    add-edge-between-2
+    edge-between-requires-2
+    returns-3)
