@@ -164,7 +164,7 @@ between-found {outer = outer} {inner = inner} {v = v} of-outer of-inner between 
     ]
 
 -- two values of one row, the outer one not taken and the inner one taken
-pub record Passed (lows highs table : List ℕ) (total : ℕ) (limits : Limits) (i : ℕ) (gap : Gap) : Type 0 where
+pub record OneRow (lows highs table : List ℕ) (total : ℕ) (limits : Limits) (i : ℕ) (gap : Gap) : Type 0 where
   pub way : Approach lows highs table total limits i (gap .outer) (gap .inner)
   pub fails : taken lows highs total limits i (gap .outer) ≡ false
   pub reach : InReach table (2 * length lows) (getD lows i 0) (getD highs i 0) (gap .outer) total
@@ -172,6 +172,6 @@ pub record Passed (lows highs table : List ℕ) (total : ℕ) (limits : Limits) 
   pub of-inner : Found table (2 * length lows) (getD lows i 0) (getD highs i 0) (gap .inner) total (gap .row)
 
 -- such values between two others
-pub record Narrowed (lows highs table : List ℕ) (total : ℕ) (limits : Limits) (i outside inside : ℕ) (gap : Gap) : Type 0 where
+pub record ToOneRow (lows highs table : List ℕ) (total : ℕ) (limits : Limits) (i outside inside : ℕ) (gap : Gap) : Type 0 where
   pub straddle : Straddle (taken lows highs total limits i) outside inside (gap .outer) (gap .inner)
-  pub passed : Passed lows highs table total limits i gap
+  pub ends : OneRow lows highs table total limits i gap

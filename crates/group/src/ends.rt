@@ -15,7 +15,7 @@ ghost use Rattle.model.specs.Figures.{apart};
 ghost use Rattle.model.specs.Plans.{taken};
 ghost use Rattle.probe.specs.Probes.{InReach};
 ghost use Rattle.group.specs.Edges.{Edge, Reach, Approach};
-ghost use Rattle.group.specs.Flanks.{Flanked, Narrowed, Passed};
+ghost use Rattle.group.specs.Flanks.{Flanked, OneRow, ToOneRow};
 
 // Two values of one row, of which some plan gives a member the inner one and none the outer one.
 struct Gap {
@@ -62,7 +62,7 @@ fn to_one_row(
     requires { ⌜ InReach (now table) (2 * length (now lows)) (getD (now lows) i 0) (getD (now highs) i 0) outside total ⌝ }
     requires { ⌜ taken (now lows) (now highs) total limits i outside ≡ false ⌝ }
     requires { ⌜ Flanked (now table) (2 * length (now lows)) (getD (now lows) i 0) (getD (now highs) i 0) total outside inside «outer_row» «inner_row» ⌝ }
-    ensures { λ r. ⌜ Narrowed (now (lows .entry)) (now (highs .entry)) (now (table .entry)) total limits i outside inside r ⌝ }
+    ensures { λ r. ⌜ ToOneRow (now (lows .entry)) (now (highs .entry)) (now (table .entry)) total limits i outside inside r ⌝ }
 {
     let low = lows[i];
     let high = highs[i];
@@ -96,7 +96,7 @@ fn edge(
     i: usize,
     gap: Gap,
 ) -> u64
-    requires { ⌜ Passed (now lows) (now highs) (now table) total limits i gap ⌝ }
+    requires { ⌜ OneRow (now lows) (now highs) (now table) total limits i gap ⌝ }
     ensures { λ r. ⌜ Edge (taken (now (lows .entry)) (now (highs .entry)) total limits i) (gap .outer) (gap .inner) r ⌝ }
 {
     let row = gap.row;

@@ -8,7 +8,7 @@ to-one-row-requires : tie.Need-to-one-row-requires
 to-one-row-requires c κs = search needs
 
 edge-requires : tie.Need-edge-requires
-edge-requires c κs = c .to-one-row .ensures .passed
+edge-requires c κs = c .to-one-row .ensures .ends
 
 returns : tie.Need-returns
 returns c = edge-outward (c .before .to-one-row .ensures .straddle) (c .edge .ensures)

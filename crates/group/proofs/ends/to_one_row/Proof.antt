@@ -184,15 +184,15 @@ returns c =
     let s = turn .before .before .before .before .before .before in
     let inv = turn .loop .inv in
     let way = s .pre .0 in
-    let ends = flanks-end (way .tabled) (s .args .i) (way .here) (inv .1) (inv .2) (inv .4) (straddle-differ (inv .0)) (omega arith) in
+    let rows = flanks-end (way .tabled) (s .args .i) (way .here) (inv .1) (inv .2) (inv .4) (straddle-differ (inv .0)) (omega arith) in
     record {
       straddle = inv .0;
-      passed = record {
+      ends = record {
         way = record { tabled = way .tabled; here = way .here; small = inv .1; share-small = inv .2; passes = inv .0 .passes };
         fails = inv .0 .fails;
         reach = inv .3;
-        of-outer = rw (c .earlier .ensures) (ends .0);
-        of-inner = rw (c .earlier .ensures) (ends .1);
+        of-outer = rw (c .earlier .ensures) (rows .0);
+        of-inner = rw (c .earlier .ensures) (rows .1);
       };
     }
 
