@@ -1,9 +1,9 @@
 /*
  * Danivomel: even shares of a total over the units of a group, by proved code. Link with libplanner.a.
  *
- * danivomel_level gives one group's most even share and its figures (the stand level of the offer), danivomel_narrow the
- * range that each unit of one group may still be given under limits (press), and danivomel_read, danivomel_settle and
- * danivomel_report settle many groups over shared units (works).
+ * danivomel_level gives one group's most even share and its figures (the stand level of the offer), danivomel_narrow
+ * the range that each unit of one group may still be given under limits (press), and danivomel_read, danivomel_settle
+ * and danivomel_report settle many groups over shared units (works).
  *
  * A list is a pointer and a count, and so is a table, a list of ranges. Every pointer must be valid for its count of
  * items, aligned and not null, also where the count is 0; a list that a call writes must overlap no other list of the
