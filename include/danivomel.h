@@ -1,6 +1,10 @@
 /*
  * Danivomel: even shares of a total over the units of a group, by proved code. Link with libplanner.a.
  *
+ * danivomel_level gives one group's most even share and its figures (the stand level of the offer), danivomel_narrow
+ * the range that each unit of one group may still be given under limits (press), and danivomel_read, danivomel_settle
+ * and danivomel_report settle many groups over shared units (works).
+ *
  * A list is a pointer and a count, and so is a table, a list of ranges. Every pointer must be valid for its count of
  * items, aligned and not null, also where the count is 0; a list that a call writes must overlap no other list of the
  * call. Nothing else is asked: any counts and any numbers are taken, and what the specification does not allow is
@@ -20,24 +24,33 @@
 extern "C" {
 #endif
 
-/* The numbers of refusals, and their places. In calls on lists of one group the place is the unit, from 1, or 0. */
+/*
+ * The numbers of refusals, and their places. Lines, units and groups are counted from 1. Calls on lists of one group
+ * (danivomel_level, danivomel_narrow) refuse 1, 4, 7, 11 and 12 only, and their place is a unit or 0. In calls on a job
+ * text 4 and 7 have a line for their place where the text is at fault, and a unit where a range of the table is.
+ */
 enum {
     DANIVOMEL_DONE = 0,                /* not refused */
-    DANIVOMEL_BAD_LISTS = 1,           /* lists empty, of unequal length, over 256 or too short; place 0 */
+    DANIVOMEL_BAD_LISTS = 1,           /* a list, table, scratch or buffer of a wrong length, see each call; place 0 */
     DANIVOMEL_TEXT_TOO_LONG = 2,       /* text over 65,536 bytes; place 0 */
-    DANIVOMEL_NOT_IN_FORM = 3,         /* line not in the form; place the line, from 1 */
-    DANIVOMEL_BEYOND_RANGE = 4,        /* number beyond its range; place the line, the unit, or 0 for total and limits */
+    DANIVOMEL_NOT_IN_FORM = 3,         /* line not in the form; place the line */
+    DANIVOMEL_BEYOND_RANGE = 4,        /* number beyond its range; place the line, the unit, or 0 for total and limits
+                                          of a group on lists */
     DANIVOMEL_UNIT_AFTER_GROUP = 5,    /* unit line after a group line; place the line */
     DANIVOMEL_TOO_MANY = 6,            /* over 256 units, 64 groups or 4,096 memberships; place the line */
     DANIVOMEL_LOW_ABOVE_HIGH = 7,      /* low above high; place the line or the unit */
     DANIVOMEL_NO_SUCH_UNIT = 8,        /* unit number 0 or above the count; place the line */
     DANIVOMEL_UNIT_TWICE = 9,          /* a unit twice in a group; place the line */
     DANIVOMEL_NO_UNITS = 10,           /* no unit line; place 0 */
-    DANIVOMEL_TOTAL_OUT_OF_REACH = 11, /* lows add up to more than the total, or highs to less; place the group or 0 */
-    DANIVOMEL_NONE_WITHIN_LIMITS = 12  /* shares exist, none within the limits; place the group or 0 */
+    DANIVOMEL_TOTAL_OUT_OF_REACH = 11, /* lows add up to more than the total, or highs to less; place the group of the
+                                          text, or 0 for a group on lists */
+    DANIVOMEL_NONE_WITHIN_LIMITS = 12  /* shares exist, none within the limits; place as for 11 */
 };
 
-/* A refusal; number 0 says that the call was not refused, and then the place is 0. */
+/*
+ * A refusal. Number 0 says that the call was not refused, and then the place is 0. The place is 0 for 1, 2 and 10 too,
+ * and in calls on lists for 4 of total and limits, 11 and 12; so look at the number.
+ */
 typedef struct {
     uint64_t number;
     uint64_t place;
@@ -65,7 +78,10 @@ typedef struct {
     danivomel_limit spread;
 } danivomel_limits;
 
-/* What levelling answers. On a refusal level, deviation and spread are 0. */
+/*
+ * What levelling answers. On every refusal (1, 4, 7, 11) level, deviation and spread are 0; on success each of them can
+ * be 0 too. The level is 1,000,000 exactly where every share is its unit's high.
+ */
 typedef struct {
     danivomel_refusal refusal;
     uint64_t level;
@@ -75,8 +91,10 @@ typedef struct {
 
 /*
  * Levels a group: the most even shares within lows and highs (0 to 1,000,000) that add up to the total (0 to
- * 256,000,000), written to the plan. No other such shares have a lesser deviation or spread.
- * Refuses, in this order: 1; 4 for the units in order; 4 for the total, place 0; 7 for the units in order; 11, place 0.
+ * 256,000,000), written to the plan. No other such shares have a lesser deviation or spread. A plan may be longer than
+ * the group.
+ * Refuses, in this order: 1 for lows and highs empty, of unequal length or over 256, or a plan shorter than they are;
+ * 4 for the units in order; 4 for the total, place 0; 7 for the units in order; 11, place 0.
  */
 danivomel_levelled danivomel_level(
     const uint64_t *lows, size_t lows_count,
@@ -88,8 +106,8 @@ danivomel_levelled danivomel_level(
  * Narrows a group in place: afterwards lows and highs hold, for each member, exactly the values that some plan takes,
  * where a plan is a choice of shares within the lows and highs at the call that add up to the total and are within
  * both limits.
- * Refuses, in this order: 1; 4 for the units in order; 4 for total and limits, place 0; 7 for the units in order; 11;
- * 12, both with place 0.
+ * Refuses, in this order: 1 for lows and highs empty, of unequal length or over 256; 4 for the units in order; 4 for
+ * total and limits, place 0; 7 for the units in order; 11; 12, both with place 0.
  */
 danivomel_refusal danivomel_narrow(
     uint64_t *lows, size_t lows_count,
@@ -97,13 +115,19 @@ danivomel_refusal danivomel_narrow(
     uint64_t total,
     danivomel_limits limits);
 
-/* The range of a unit: an entry of a table. Unit 1 is the table's first entry. */
+/*
+ * The range of a unit: an entry of a table. Unit 1 is the table's first entry. A table may have more entries than the
+ * job has units, and more than 256: what lies past the units is not looked at and keeps its values.
+ */
 typedef struct {
     uint64_t low;
     uint64_t high;
 } danivomel_range;
 
-/* What reading a job text answers. On a refusal both counts are 0. */
+/*
+ * What reading a job text answers. On every refusal (1 to 10) both counts are 0. On success units is 1 to 256, and
+ * groups is 0 to 64.
+ */
 typedef struct {
     danivomel_refusal refusal;
     size_t units;
@@ -111,15 +135,18 @@ typedef struct {
 } danivomel_counts;
 
 /*
- * Reads a job text into a table: afterwards the table begins with the ranges of the unit lines, and entries past the
- * units keep their values.
- * Refuses, in this order: 2; the first bad line with the lowest of 3 to 9; 10; 1 for a table too short for the units.
+ * Reads a job text into a table: afterwards the table begins with the ranges of the unit lines.
+ * Refuses, in this order: 2; the first bad line with the lowest of 3 to 9; 10; 1 for a table with fewer entries than
+ * the job has units. 256 entries are always enough.
  */
 danivomel_counts danivomel_read(
     const uint8_t *text, size_t text_count,
     danivomel_range *table, size_t table_count);
 
-/* What settling answers: the passes, the quiet or refusing one counted; 0 where it is refused ahead of the first. */
+/*
+ * What settling answers. The passes, the last one counted, are at least 1 on success and for 11 and 12. They are 0 for
+ * 1 to 10, which come ahead of the first pass.
+ */
 typedef struct {
     danivomel_refusal refusal;
     uint64_t passes;
@@ -127,18 +154,22 @@ typedef struct {
 
 /*
  * Settles a table under the groups of a job text: opens with the ranges that the table holds, and leaves the greatest
- * ranges inside them in which each value is taken, in each of its unit's groups, by a plan drawn from them. Entries
- * past the units keep their values.
- * The scratch has 8 numbers a unit; what it held changes nothing, and it holds anything afterwards.
- * Refuses, in this order: as reading up to 10; 1 for a table or scratch too short for the units; 4, then 7 for the
- * ranges, place the first such unit; 11 and 12, place the group, where no such ranges exist.
+ * ranges inside them in which each value is taken, in each of its unit's groups, by a plan drawn from them. The unit
+ * lines are checked and counted, but their ranges are not used: danivomel_read puts those into a table.
+ * The scratch has at least 8 numbers a unit; what it held changes nothing, and it holds anything afterwards.
+ * Refuses, in this order: as reading up to 10; 1 for a table with fewer entries than the job has units, or a scratch
+ * with fewer than 8 numbers a unit; 4, then 7 for the ranges of the table, place the first such unit; 11 and 12, place
+ * the group, where no such ranges exist.
  */
 danivomel_settled danivomel_settle(
     const uint8_t *text, size_t text_count,
     danivomel_range *table, size_t table_count,
     uint64_t *scratch, size_t scratch_count);
 
-/* What reporting answers: the report's length and the passes, or a refusal, with the passes for 11 and 12. */
+/*
+ * What reporting answers. On success both passes and length are at least 1. For 11 and 12 the passes are at least 1 and
+ * the length is 0. For 1 to 10 both are 0.
+ */
 typedef struct {
     danivomel_refusal refusal;
     uint64_t passes;
@@ -146,8 +177,9 @@ typedef struct {
 } danivomel_reported;
 
 /*
- * Settles as danivomel_settle does and writes the report to the start of the buffer, which has at least 65,536 bytes.
- * Refuses 1 for a shorter buffer first, then as settling; the buffer is then as it was.
+ * Settles as danivomel_settle does, table and scratch included, and writes the report to the start of the buffer, which
+ * has at least 65,536 bytes.
+ * Refuses, in this order: 1 for a buffer of fewer than 65,536 bytes; then as settling.
  */
 danivomel_reported danivomel_report(
     const uint8_t *text, size_t text_count,
