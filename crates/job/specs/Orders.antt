@@ -1,12 +1,12 @@
 -- A text with its group lines in another order: it is accepted too, as the same job but for the order of its groups. Assumes nothing.
-use Prim.Native.Nat.{ℕ, _+_, _≤_}
-use mathlib.Core.List.{List, [], _∷_, _++_, map, flatten as joined, List·Memᴰ, List·Memᴰ·head, List·Memᴰ·tail, List·Permᴰ, List·Permᴰ·nil, List·Permᴰ·cons, List·Permᴰ·swap, List·Permᴰ·trans, Permᴰ·symm, Permᴰ·append-left}
+use Prim.Native.Nat.{ℕ}
+use mathlib.Core.List.{List, [], _∷_, _++_, flatten as joined, List·Memᴰ, List·Memᴰ·head, List·Memᴰ·tail, List·Permᴰ, List·Permᴰ·nil, List·Permᴰ·cons, List·Permᴰ·swap, List·Permᴰ·trans, Permᴰ·symm, Permᴰ·append-left}
 use mathlib.Core.Path.{_≡_, refl, sym, ap, _∙_}
 use native.Mathlib.Omega.{arith}
 use lib.ListN.{length, getD, length-append}
 use Rattle.job.specs.Accepting.{Takes, accepted-takes, takes-accepted}
-use Rattle.job.specs.Form.{UnitLine, GroupLine, Line, unit, group, groupOpening, printLine}
-use Rattle.job.specs.Job.{Job, verdict, add, accepted, noLines, readJob}
+use Rattle.job.specs.Form.{UnitLine, unit, group, groupOpening, printLine}
+use Rattle.job.specs.Job.{Job, verdict, add, accepted, readJob}
 use Rattle.job.specs.SameJob.{SameButOrder, still-there, verdict-same, add-same, Follows, takes-same, second-first, first-second, swapped-same, unchanged, order-on}
 use Rattle.job.specs.TextLines.{linesOf, joined-lines}
 
@@ -57,8 +57,7 @@ same-bytes : {xs ys : List (List ℕ)} → List·Permᴰ xs ys → length (joine
 unfolding joined
 same-bytes List·Permᴰ·nil = refl
 same-bytes (List·Permᴰ·cons {b = b} {l₁ = xs} {l₂ = ys} e d) = rw (e, length-append b (joined xs), length-append b (joined ys), same-bytes d)
-same-bytes (List·Permᴰ·swap {a′ = a} {b′ = b} {l = xs} e f) =
-    rw (e, f) (simp length-append (omega arith))
+same-bytes (List·Permᴰ·swap e f) = rw (e, f) (simp length-append (omega arith))
 same-bytes (List·Permᴰ·trans c d) = same-bytes c ∙ same-bytes d
 
 -- lines taken, apart after some of them

@@ -72,7 +72,7 @@ pub lines-next : {bytes : List ℕ} → OneLine bytes → (s : List ℕ) → lin
 lines-next one s = rw (one .ended, append-assoc (one .body) (10 ∷ []) s) (first-line (one .body) s (one .inside))
 
 -- bytes without byte 10 ahead of a line
-line-ahead : (w : List ℕ) {bytes : List ℕ} → holds 10 w ≡ false → OneLine bytes → OneLine (w ++ bytes)
+pub line-ahead : (w : List ℕ) {bytes : List ℕ} → holds 10 w ≡ false → OneLine bytes → OneLine (w ++ bytes)
 line-ahead w none one = record {
   body = w ++ one .body;
   ended = ap (λ s. w ++ s) (one .ended) ∙ sym (append-assoc w (one .body) (10 ∷ []));
@@ -93,7 +93,7 @@ number-without (suc n) v h =
     ]
 
 -- a number ahead of a line
-number-ahead : (v : ℕ) {bytes : List ℕ} → OneLine bytes → OneLine (printNumber v ++ bytes)
+pub number-ahead : (v : ℕ) {bytes : List ℕ} → OneLine bytes → OneLine (printNumber v ++ bytes)
 number-ahead v one = line-ahead (printNumber v) (number-without (suc v) v (omega arith)) one
 
 -- a limit

@@ -1,11 +1,11 @@
 -- An accepted text, whole: its unit lines, then its group lines, and the job that they are. Assumes nothing.
 use Prim.Native.Nat.{ℕ, _≤_}
 use mathlib.Core.List.{List, [], _∷_, _++_, append-assoc, append-nil, map, flatten as joined, List·Memᴰ, List·Memᴰ·head, List·Memᴰ·tail, List·Permᴰ}
-use mathlib.Core.Path.{_≡_, refl, sym, ap, _∙_}
+use mathlib.Core.Path.{_≡_, refl, sym, _∙_}
 use native.Mathlib.Omega.{arith}
 use lib.ListN.{length, length-append}
 use Rattle.job.specs.Accepting.{Takes, accepted-takes}
-use Rattle.job.specs.Form.{UnitLine, GroupLine, Line, unit, group, printLine}
+use Rattle.job.specs.Form.{UnitLine, GroupLine, unit, group, printLine}
 use Rattle.job.specs.Job.{Job, groupOf, verdict, add, accepted, noLines, readJob}
 use Rattle.job.specs.Orders.{OfGroup, Reordered}
 use Rattle.job.specs.TextLines.{linesOf}
