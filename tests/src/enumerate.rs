@@ -1,9 +1,10 @@
 //! Brute force on small groups and jobs: every share list, every plan, every table. It knows nothing of levels;
 //! what it finds comes of the specification's definitions of shares, figures, plans and tables at rest alone.
 
-use crate::answers::{Deviation, Limits, Spread};
+use crate::calls::met;
 use crate::independent::reader::Group;
 use crate::independent::GREATEST_SHARE;
+use danivomel::{Deviation, Limits, Spread};
 
 /// A range: low and high.
 pub type Range = (u64, u64);
@@ -51,7 +52,7 @@ pub fn above(shares: &[u64], t: u64) -> u64 {
 /// All plans: the share lists within both limits.
 pub fn plans(ranges: &[Range], total: u64, limits: Limits) -> Vec<Vec<u64>> {
     let mut lists = share_lists(ranges, total);
-    lists.retain(|list| limits.met(deviation(list, total), spread(list, total)));
+    lists.retain(|list| met(limits, deviation(list, total), spread(list, total)));
     lists
 }
 

@@ -1,7 +1,7 @@
 //! A second reader of job texts, to judge the independent one: it takes a line's words apart loosely, prints the line
 //! anew from them, and compares the bytes.
 
-use crate::answers::Refusal;
+use danivomel::Refusal;
 
 /// A number as its digits; compared by length first, so of any size.
 #[derive(Clone, Debug, PartialEq, Eq, PartialOrd, Ord)]

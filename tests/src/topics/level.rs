@@ -1,11 +1,12 @@
 //! Levelling one group: the known shares, enumeration, the edges of every range, and laws of large groups.
 
 use super::marks;
-use crate::answers::{Deviation, Level, Levelled, Refusal, Spread};
+use crate::calls::Level;
 use crate::cases::groups::{large, small, GroupCase};
 use crate::check::{Checks, Topic};
 use crate::enumerate::{self, above, deviation, deviation_bound, share_lists, spread, total_at};
 use crate::independent::{self, GREATEST_SHARE, MOST_UNITS};
+use danivomel::{Deviation, Levelled, Refusal, Spread};
 
 /// What a levelling should answer: the figures and the shares, or a refusal.
 type Expected = Result<(Levelled, Vec<u64>), Refusal>;

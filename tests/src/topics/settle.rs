@@ -2,11 +2,12 @@
 
 use super::read::Shown;
 use super::{marks, pairs_of, table_of, with_spare};
-use crate::answers::{Refusal, Settle, Unsettled};
+use crate::calls::Settle;
 use crate::cases::jobs::{other_table, print_job, sound, MIDDLE, WIDE};
 use crate::check::{Checks, Topic};
 use crate::enumerate::{self, suits_all, Range};
 use crate::independent::{self, reader::read_job};
+use danivomel::{Refusal, Unsettled};
 
 /// The specification's worked job.
 pub const WORKED: &str = "(unit 0 10)\n(unit 0 10)\n(unit 0 10)\n(group 10 (dev 4) (spread any) (of 1 2))\n(group 8 (dev any) (spread 4) (of 2 3))\n";

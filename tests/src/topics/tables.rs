@@ -2,7 +2,7 @@
 
 use super::settle::{check, no_plan, Expected};
 use super::{pairs_of, table_of};
-use crate::answers::Settle;
+use crate::calls::Settle;
 use crate::cases::jobs::{other_table, print_job, sound, MIDDLE, TINY};
 use crate::check::{Checks, Topic};
 use crate::enumerate::{self, inside, tables_at_rest, Range};
