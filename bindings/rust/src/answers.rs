@@ -46,7 +46,8 @@ pub struct Range {
 /// What levelling answers beside the shares.
 #[derive(Clone, Copy, Debug, PartialEq, Eq)]
 pub struct Levelled {
-    /// The share of every member whose range allows it, copies left over aside.
+    /// Each member takes this share, or its own low or high where the level is outside; copies left over go one each to
+    /// the first members that can take one more. 1,000,000 where all members are at their highs.
     pub level: u64,
     /// The shares' deviation, the least that can be had.
     pub deviation: Deviation,

@@ -27,7 +27,7 @@ impl Refusal {
     /// ```
     pub fn reason(&self) -> &'static str {
         match self.number {
-            1 => "a list, table, scratch or buffer is too short, or a group's lists are empty, over 256 or of unequal length",
+            1 => "a list, table, scratch or buffer of a wrong length",
             2 => "the text is longer than 65,536 bytes",
             3 => "the line is not in the form",
             4 => "a number is beyond its range",

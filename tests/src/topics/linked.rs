@@ -1,7 +1,8 @@
 //! What is linked with the archive: a program in C over the header, the evening's change from C and from Rust, and the
-//! documentation examples of the package for Rust.
+//! documentation examples and the words of the package for Rust.
 
 use crate::check::{Checks, Topic};
+use danivomel::Refusal;
 use std::process::{Command, Output};
 
 /// The program of tests/c, which tests/run builds.
@@ -23,6 +24,7 @@ pub fn run(checks: &mut Checks) {
     });
     checks.topic("evening's change, from C and Rust", "planner", evenings);
     checks.topic("documentation examples", "planner", documentation);
+    checks.topic("refusals in words", "planner", words);
 }
 
 /// What a program does with some words.
@@ -63,4 +65,13 @@ fn documentation(topic: &mut Topic) {
         topic.holds(&line, "example", line.ends_with(" ... ok"));
     }
     topic.holds(&text, "all examples", run.status.success());
+}
+
+/// The package says a refusal in the words of the user guide's table, which has those that a job can cause.
+fn words(topic: &mut Topic) {
+    let guide = std::fs::read_to_string("docs/USER-GUIDE.md").expect("the guide is read");
+    for number in 2..=12 {
+        let row = format!("| {number} | {} |", Refusal { number, place: 0 }.reason());
+        topic.holds(&row, "in the user guide", guide.contains(&row));
+    }
 }
