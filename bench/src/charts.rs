@@ -25,7 +25,7 @@ pub fn narrow(timed: &[Timed]) -> String {
             across: "members".to_string(),
             up: "microseconds".to_string(),
             scale: Scale::Logarithmic,
-            lines: lines.into_iter().filter(|line| !line.points.is_empty()).collect(),
+            lines: lines.into(),
         }
     };
     svg(&[panel("Narrowing, first call, tight limits", true), panel("Narrowing, quiet call, tight limits", false)])
@@ -40,9 +40,6 @@ pub fn growth(timed: &[Timed]) -> Table {
             let points = points(timed, name, first);
             let at = |n: f64| points.iter().find(|point| point.0 == n).map(|point| point.1);
             let a_member = |n: f64| digits(at(n).map(|time| 1_000.0 * time / n));
-            if points.is_empty() {
-                continue;
-            }
             table.add(vec![
                 name.to_string(),
                 if first { "first" } else { "quiet" }.to_string(),

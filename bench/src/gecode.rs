@@ -2,7 +2,7 @@
 
 use crate::planners::{GECODE, GECODE_ALONE};
 use crate::timing::Contender;
-use danivomel_tests::answers::Limit;
+use danivomel::Limit;
 use danivomel_tests::independent::reader::Group;
 use std::hint::black_box;
 use std::rc::Rc;

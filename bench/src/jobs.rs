@@ -1,6 +1,6 @@
 //! The groups, jobs and texts of the benchmark, drawn from one seed.
 
-use danivomel_tests::answers::{Limit, Limits};
+use danivomel::{Limit, Limits};
 use danivomel_tests::cases::groups::GroupCase;
 use danivomel_tests::cases::jobs::print_job;
 use danivomel_tests::independent::level::{clamp, figures};

@@ -16,15 +16,30 @@ mod timing;
 mod work;
 
 use goals::Results;
+use std::process::ExitCode;
 use std::time::Instant;
 use std::{fs, io, thread};
 use table::Table;
 use work::paper::Row;
 
-fn main() -> io::Result<()> {
+fn main() -> ExitCode {
+    match run() {
+        Ok(()) => ExitCode::SUCCESS,
+        Err(error) => {
+            eprintln!("bench: {error}");
+            ExitCode::FAILURE
+        }
+    }
+}
+
+/// Measures everything; where this is no trial, writes it down.
+fn run() -> io::Result<()> {
     let start = Instant::now();
     let load = load();
-    println!("seed {}; the planner takes part in: {}; load {load}", jobs::SEED, planners::takes_part());
+    println!("seed {}; load {load}", jobs::SEED);
+    if !timing::is_trial() {
+        page::check()?;
+    }
     if load.parse().is_ok_and(|load: f64| load > 1.0) {
         println!("this machine is busy: times mean little, ratios a little more");
     }
@@ -74,11 +89,8 @@ fn measured(start: Instant) -> (Vec<Table>, Results, Vec<Row>) {
 /// What there is to know about a run.
 fn run_line(start: Instant, load: &str) -> String {
     format!(
-        "Seed {}; the planner takes part in: {}; exact narrowing is by {}; {} {}, {} cores, load {load} at the start; \
-         {} answers compared, none different; {:.0} s.",
+        "Seed {}; {} {}, {} cores, load {load} at the start; {} answers compared, none different; {:.0} s.",
         jobs::SEED,
-        planners::takes_part(),
-        planners::exact().0,
         std::env::consts::ARCH,
         std::env::consts::OS,
         thread::available_parallelism().map_or(1, usize::from),

@@ -1,10 +1,8 @@
-//! Who takes part, by name. The proved planner takes part with the calls that its archive has.
+//! Who takes part, by name.
 
 use crate::plain;
-use danivomel_tests::answers::{Level, Narrow, Read, Report, Settle};
+use danivomel_tests::calls::{Level, Narrow, Read, Report, Settle};
 use danivomel_tests::independent;
-#[cfg(feature = "level")]
-use danivomel_tests::planner;
 
 /// The proved planner, from its archive.
 pub const PLANNER: &str = "planner";
@@ -19,56 +17,18 @@ pub const GECODE: &str = "Gecode";
 pub const GECODE_ALONE: &str = "Gecode, propagation alone";
 
 /// Who levels.
-pub const LEVELS: &[(&str, Level)] = &[
-    (BISECTION, independent::level),
-    #[cfg(feature = "level")]
-    (PLANNER, planner::level),
-];
+pub const LEVELS: &[(&str, Level)] = &[(BISECTION, independent::level), (PLANNER, danivomel::level)];
 
 /// Who narrows.
-pub const NARROWS: &[(&str, Narrow)] = &[
-    (BISECTION, independent::narrow),
-    (ROWS, plain::narrow),
-    #[cfg(feature = "narrow")]
-    (PLANNER, planner::narrow),
-];
+pub const NARROWS: &[(&str, Narrow)] =
+    &[(BISECTION, independent::narrow), (ROWS, plain::narrow), (PLANNER, danivomel::narrow)];
 
 /// Who reads.
-pub const READS: &[(&str, Read)] = &[
-    (BISECTION, independent::read),
-    #[cfg(feature = "read")]
-    (PLANNER, planner::read),
-];
+pub const READS: &[(&str, Read)] = &[(BISECTION, independent::read), (PLANNER, danivomel::read)];
 
 /// Who settles.
-pub const SETTLES: &[(&str, Settle)] = &[
-    (BISECTION, independent::settle),
-    (ROWS, plain::settle),
-    #[cfg(feature = "settle")]
-    (PLANNER, planner::settle),
-];
+pub const SETTLES: &[(&str, Settle)] =
+    &[(BISECTION, independent::settle), (ROWS, plain::settle), (PLANNER, danivomel::settle)];
 
 /// Who reports.
-pub const REPORTS: &[(&str, Report)] = &[
-    (BISECTION, independent::report),
-    #[cfg(feature = "report")]
-    (PLANNER, planner::report),
-];
-
-/// The calls that the proved planner takes part with.
-pub fn takes_part() -> String {
-    let calls = [
-        ("level", cfg!(feature = "level")),
-        ("narrow", cfg!(feature = "narrow")),
-        ("read", cfg!(feature = "read")),
-        ("settle", cfg!(feature = "settle")),
-        ("report", cfg!(feature = "report")),
-    ];
-    let there: Vec<&str> = calls.iter().filter(|(_, there)| *there).map(|(call, _)| *call).collect();
-    there.join(", ")
-}
-
-/// The narrowing of the proved planner, or that of plain Rust as long as the archive has none, with its name.
-pub fn exact() -> (&'static str, Narrow) {
-    NARROWS[NARROWS.len() - 1]
-}
+pub const REPORTS: &[(&str, Report)] = &[(BISECTION, independent::report), (PLANNER, danivomel::report)];

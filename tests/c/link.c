@@ -31,7 +31,6 @@ static int known_share(void) {
     return faults + same("plan after a refusal", plan[0], 8);
 }
 
-#ifdef DANIVOMEL_NARROW
 /* The same group under deviation limit 28 leaves [8,8] [4,5] [3,5] [3,4]. */
 static int known_ranges(void) {
     uint64_t lows[4] = {8, 4, 1, 3};
@@ -47,9 +46,7 @@ static int known_ranges(void) {
     found = danivomel_narrow(lows, 4, highs, 4, 20, limits);
     return faults + same("refusal", found.number, DANIVOMEL_NONE_WITHIN_LIMITS);
 }
-#endif
 
-#ifdef DANIVOMEL_REPORT
 /* The table's entries. */
 static int same_table(const danivomel_range *found, const danivomel_range *expected, int count) {
     int faults = 0;
@@ -82,19 +79,12 @@ static int known_job(void) {
     memcpy(table, read, sizeof table);
     danivomel_reported written = danivomel_report(job, length, table, 4, scratch, 24, buffer, sizeof buffer);
     faults += same("refusal", written.refusal.number, DANIVOMEL_DONE) + same_table(table, settled, 4);
-    faults += same("length", written.length, strlen(report));
+    faults += same("passes", written.passes, 3) + same("length", written.length, strlen(report));
     return faults + same("report", memcmp(buffer, report, strlen(report)) == 0, 1);
 }
-#endif
 
 int main(void) {
-    int faults = known_share();
-#ifdef DANIVOMEL_NARROW
-    faults += known_ranges();
-#endif
-#ifdef DANIVOMEL_REPORT
-    faults += known_job();
-#endif
+    int faults = known_share() + known_ranges() + known_job();
     printf("c: %s\n", faults == 0 ? "linked, known answers hold" : "FAILED");
     return faults != 0;
 }

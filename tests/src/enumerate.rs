@@ -1,9 +1,10 @@
 //! Brute force on small groups and jobs: every share list, every plan, every table. It knows nothing of levels;
 //! what it finds comes of the specification's definitions of shares, figures, plans and tables at rest alone.
 
-use crate::answers::{Deviation, Limits, Spread};
+use crate::calls::met;
 use crate::independent::reader::Group;
 use crate::independent::GREATEST_SHARE;
+use danivomel::{Deviation, Limits, Spread};
 
 /// A range: low and high.
 pub type Range = (u64, u64);
@@ -17,12 +18,13 @@ pub fn share_lists(ranges: &[Range], total: u64) -> Vec<Vec<u64>> {
 
 /// Adds every list that begins with the given shares and whose others, from the ranges left, add up to what is left.
 fn extend(ranges: &[Range], left: u64, shares: &mut Vec<u64>, lists: &mut Vec<Vec<u64>>) {
-    let Some(&(low, high)) = ranges.first() else {
-        if left == 0 {
-            lists.push(shares.clone());
-        }
+    if ranges.is_empty() && left == 0 {
+        lists.push(shares.clone());
+    }
+    if ranges.is_empty() {
         return;
-    };
+    }
+    let (low, high) = ranges[0];
     for share in low..=high.min(left) {
         shares.push(share);
         extend(&ranges[1..], left - share, shares, lists);
@@ -51,7 +53,7 @@ pub fn above(shares: &[u64], t: u64) -> u64 {
 /// All plans: the share lists within both limits.
 pub fn plans(ranges: &[Range], total: u64, limits: Limits) -> Vec<Vec<u64>> {
     let mut lists = share_lists(ranges, total);
-    lists.retain(|list| limits.met(deviation(list, total), spread(list, total)));
+    lists.retain(|list| met(limits, deviation(list, total), spread(list, total)));
     lists
 }
 

@@ -1,23 +1,42 @@
-//! Runs all tests. An argument is the seed that the topics draw theirs from.
+//! Runs all tests, in the repository's folder and with what tests/run builds there. An argument is the seed that the
+//! topics draw theirs from.
 
 use danivomel_tests::check::Checks;
-#[cfg(feature = "level")]
-use danivomel_tests::planner;
+use danivomel_tests::topics::{linked, program};
 use danivomel_tests::{independent, topics};
 use std::path::Path;
 use std::process::ExitCode;
 
 fn main() -> ExitCode {
-    let seed = std::env::args().nth(1).and_then(|word| word.parse().ok()).unwrap_or(1);
+    let seed = match seed_if_ready() {
+        Ok(seed) => seed,
+        Err(message) => {
+            eprintln!("danivomel-tests: {message}");
+            return ExitCode::from(2);
+        }
+    };
     println!("seed {seed}");
     let mut checks = Checks::new(seed);
     independent_planner(&mut checks);
-    #[cfg(feature = "level")]
     proved_planner(&mut checks);
-    if let Some(settle) = std::env::var_os("PLANNER_PROGRAM") {
-        topics::program::run(&mut checks, Path::new(&settle), Path::new("examples"));
-    }
+    program::run(&mut checks);
+    linked::run(&mut checks);
     checks.end()
+}
+
+/// The seed, 1 where none is given; or what is wrong with the call.
+fn seed_if_ready() -> Result<u64, String> {
+    let built = [program::SETTLE, linked::C_PROGRAM].into_iter().chain(linked::EVENINGS);
+    if let Some(missing) = built.into_iter().find(|path| !Path::new(path).is_file()) {
+        return Err(format!("{missing} is not there; tests/run builds it"));
+    }
+    match std::env::args_os().nth(1) {
+        None => Ok(1),
+        Some(word) => word
+            .to_str()
+            .and_then(|word| word.parse().ok())
+            .ok_or_else(|| format!("the seed is a whole number of 64 bits, not {word:?}")),
+    }
 }
 
 /// The independent planner against brute force, so that the judge is judged.
@@ -39,36 +58,23 @@ fn independent_planner(checks: &mut Checks) {
 }
 
 /// The proved planner against brute force and against the independent planner.
-#[cfg(feature = "level")]
 fn proved_planner(checks: &mut Checks) {
     let who = "planner";
-    topics::level::run(checks, who, planner::level);
-    topics::level::compare(checks, who, planner::level);
-    topics::lists::run_level(checks, who, planner::level);
-    #[cfg(feature = "narrow")]
-    {
-        topics::narrow::run(checks, who, planner::narrow);
-        topics::narrow::compare(checks, who, planner::narrow);
-        topics::lists::run_narrow(checks, who, planner::narrow);
-    }
-    #[cfg(feature = "read")]
-    {
-        topics::read::run(checks, who, planner::read);
-        topics::read::compare(checks, who, planner::read);
-        topics::lines::run(checks, who, planner::read);
-        topics::calls::run_read(checks, who, planner::read);
-    }
-    #[cfg(feature = "settle")]
-    {
-        topics::settle::run(checks, who, planner::settle);
-        topics::settle::compare(checks, who, planner::settle);
-        topics::tables::run(checks, who, planner::settle);
-        topics::calls::run_settle(checks, who, planner::settle);
-    }
-    #[cfg(feature = "report")]
-    {
-        topics::report::run(checks, who, planner::report);
-        topics::report::compare(checks, who, planner::report);
-        topics::calls::run_report(checks, who, planner::report);
-    }
+    topics::level::run(checks, who, danivomel::level);
+    topics::level::compare(checks, who, danivomel::level);
+    topics::lists::run_level(checks, who, danivomel::level);
+    topics::narrow::run(checks, who, danivomel::narrow);
+    topics::narrow::compare(checks, who, danivomel::narrow);
+    topics::lists::run_narrow(checks, who, danivomel::narrow);
+    topics::read::run(checks, who, danivomel::read);
+    topics::read::compare(checks, who, danivomel::read);
+    topics::lines::run(checks, who, danivomel::read);
+    topics::calls::run_read(checks, who, danivomel::read);
+    topics::settle::run(checks, who, danivomel::settle);
+    topics::settle::compare(checks, who, danivomel::settle);
+    topics::tables::run(checks, who, danivomel::settle);
+    topics::calls::run_settle(checks, who, danivomel::settle);
+    topics::report::run(checks, who, danivomel::report);
+    topics::report::compare(checks, who, danivomel::report);
+    topics::calls::run_report(checks, who, danivomel::report);
 }

@@ -1,7 +1,7 @@
 //! A second reader of job texts, to judge the independent one: it takes a line's words apart loosely, prints the line
 //! anew from them, and compares the bytes.
 
-use crate::answers::Refusal;
+use danivomel::Refusal;
 
 /// A number as its digits; compared by length first, so of any size.
 #[derive(Clone, Debug, PartialEq, Eq, PartialOrd, Ord)]
@@ -38,9 +38,7 @@ pub fn read(text: &[u8]) -> Result<(u64, u64), Refusal> {
     let mut place = 0;
     while !rest.is_empty() {
         place += 1;
-        let Some(end) = rest.iter().position(|&byte| byte == 10) else {
-            return Err(Refusal { number: 3, place });
-        };
+        let end = rest.iter().position(|&byte| byte == 10).ok_or(Refusal { number: 3, place })?;
         if let Some(number) = fault(&mut state, &rest[..end]) {
             return Err(Refusal { number, place });
         }
@@ -54,27 +52,27 @@ pub fn read(text: &[u8]) -> Result<(u64, u64), Refusal> {
 
 /// The lowest refusal of a line, where it has one.
 fn fault(state: &mut State, line: &[u8]) -> Option<u64> {
-    let Ok(line) = std::str::from_utf8(line) else {
-        return Some(3);
-    };
+    line_faults(state, line).map_or(Some(3), |faults| faults.into_iter().min())
+}
+
+/// All refusals of a line but 3; none of a line that is not in the form.
+fn line_faults(state: &mut State, line: &[u8]) -> Option<Vec<u64>> {
+    let line = std::str::from_utf8(line).ok()?;
     let words: Vec<&str> = line.split(['(', ')', ' ']).filter(|word| !word.is_empty()).collect();
-    match words.first() {
-        Some(&"unit") => unit_faults(state, line, &words).into_iter().min(),
-        Some(&"group") => group_faults(state, line, &words).into_iter().min(),
-        _ => Some(3),
+    match words[..] {
+        ["unit", low, high] => unit_faults(state, line, low, high),
+        ["group", total, "dev", dev, "spread", spread, "of", ref members @ ..] => {
+            group_faults(state, line, [total, dev, spread], members)
+        }
+        _ => None,
     }
 }
 
 /// All refusals of a unit line.
-fn unit_faults(state: &mut State, line: &str, words: &[&str]) -> Vec<u64> {
-    let ["unit", low, high] = words else {
-        return vec![3];
-    };
-    let (Some(low), Some(high)) = (digits(low), digits(high)) else {
-        return vec![3];
-    };
+fn unit_faults(state: &mut State, line: &str, low: &str, high: &str) -> Option<Vec<u64>> {
+    let (low, high) = (digits(low)?, digits(high)?);
     if line != format!("(unit {} {})", low.1, high.1) {
-        return vec![3];
+        return None;
     }
     state.units += 1;
     let faults = [
@@ -83,25 +81,19 @@ fn unit_faults(state: &mut State, line: &str, words: &[&str]) -> Vec<u64> {
         (6, state.units > 256),
         (7, low > high),
     ];
-    present(&faults)
+    Some(present(&faults))
 }
 
-/// All refusals of a group line.
-fn group_faults(state: &mut State, line: &str, words: &[&str]) -> Vec<u64> {
-    let ["group", total, "dev", dev, "spread", spread, "of", members @ ..] = words else {
-        return vec![3];
-    };
+/// All refusals of a group line, whose amounts are its total and its two limits.
+fn group_faults(state: &mut State, line: &str, amounts: [&str; 3], members: &[&str]) -> Option<Vec<u64>> {
+    let [total, dev, spread] = amounts;
     let limit = |word: &str| if word == "any" { digits("0") } else { digits(word) };
-    let numbers: Option<Vec<Digits>> = members.iter().map(|word| digits(word)).collect();
-    let (Some(total), Some(most_dev), Some(most_spread), Some(numbers)) =
-        (digits(total), limit(dev), limit(spread), numbers)
-    else {
-        return vec![3];
-    };
+    let (total, most_dev, most_spread) = (digits(total)?, limit(dev)?, limit(spread)?);
+    let numbers = members.iter().map(|word| digits(word)).collect::<Option<Vec<Digits>>>()?;
     if members.is_empty()
         || line != format!("(group {} (dev {dev}) (spread {spread}) (of {}))", total.1, members.join(" "))
     {
-        return vec![3];
+        return None;
     }
     state.groups += 1;
     state.memberships += members.len();
@@ -115,7 +107,7 @@ fn group_faults(state: &mut State, line: &str, words: &[&str]) -> Vec<u64> {
         (8, numbers.iter().any(|number| number.1 == "0" || beyond(number, state.units))),
         (9, different.len() < numbers.len()),
     ];
-    present(&faults)
+    Some(present(&faults))
 }
 
 /// The numbers of the faults that are there.

@@ -1,7 +1,8 @@
 //! A group's breakpoints: its bounds in order, each with the sums of the shares levelled there. Between two of them every
 //! member either keeps its share or moves with the level, so that the sums at any level follow from one row.
 
-use danivomel_tests::answers::{Deviation, Limits, Spread};
+use danivomel::{Deviation, Limits, Spread};
+use danivomel_tests::calls::met;
 use danivomel_tests::independent::level::{clamp, deviation_part};
 
 /// Sums over the shares at one level.
@@ -109,7 +110,7 @@ impl<'a> Table<'a> {
     /// Whether the figures of all shares are within the limits.
     fn met(&self, sums: Sums) -> bool {
         let spread = self.n * sums.squares - self.total * self.total;
-        self.limits.met(Deviation(sums.deviation), Spread(spread))
+        met(self.limits, Deviation(sums.deviation), Spread(spread))
     }
 
     /// Gives what a total has more than a row's to its growing members, who are all at its level: their new level, the

@@ -5,7 +5,7 @@ mod breakpoints;
 mod rows;
 
 use breakpoints::{Member, Room, Table};
-use danivomel_tests::answers::{Limits, Range, Refusal, Unsettled};
+use danivomel::{Limits, Range, Refusal, Unsettled};
 use danivomel_tests::independent::level::{clamp, has_shares};
 use danivomel_tests::independent::narrow::check_lists;
 use danivomel_tests::independent::settle::settle_job;

@@ -4,7 +4,7 @@ use crate::check::{covers, same};
 use crate::gecode::{self, Form, Outcome, Posted};
 use crate::jobs::{group, Tightness, COMMON, SEED, SIZES};
 use crate::plain;
-use crate::planners::{exact, GECODE};
+use crate::planners::{GECODE, PLANNER};
 use crate::table::{percent, Table};
 use crate::work::{lone, values};
 use danivomel_tests::cases::groups::GroupCase;
@@ -63,10 +63,9 @@ pub fn run() -> Table {
 /// The group as exact narrowing leaves it, by the planner and by plain Rust alike.
 fn narrowed(case: &GroupCase) -> GroupCase {
     let (mut after, mut expected) = (case.clone(), case.clone());
-    let (name, narrow) = exact();
     let answer = plain::narrow(&mut expected.lows, &mut expected.highs, case.total, case.limits);
-    same(name, "narrowing", narrow(&mut after.lows, &mut after.highs, case.total, case.limits), answer);
-    same(name, "narrowed ranges", &after, &expected);
+    same(PLANNER, "narrowing", danivomel::narrow(&mut after.lows, &mut after.highs, case.total, case.limits), answer);
+    same(PLANNER, "narrowed ranges", &after, &expected);
     after
 }
 
@@ -131,7 +130,6 @@ fn has_no_deviation(case: &GroupCase) -> bool {
 
 /// Whether exact narrowing refuses.
 fn is_refused(case: &GroupCase) -> bool {
-    let (_, narrow) = exact();
     let mut after = case.clone();
-    narrow(&mut after.lows, &mut after.highs, case.total, case.limits).is_err()
+    danivomel::narrow(&mut after.lows, &mut after.highs, case.total, case.limits).is_err()
 }

@@ -5,7 +5,7 @@ use crate::jobs::{groups_of, Tightness, SIZES};
 use crate::planners::{BISECTION, LEVELS, PLANNER};
 use crate::table::{digits, Table};
 use crate::timing::{in_turn, Contender, Times};
-use danivomel_tests::answers::Level;
+use danivomel_tests::calls::Level;
 use danivomel_tests::cases::groups::GroupCase;
 use danivomel_tests::independent::{self, GREATEST_SHARE};
 use std::hint::black_box;

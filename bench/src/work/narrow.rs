@@ -7,7 +7,7 @@ use crate::planners::{BISECTION, GECODE, GECODE_ALONE, NARROWS, PLANNER, ROWS};
 use crate::table::{digits, Table};
 use crate::timing::{in_turn, Contender, Times};
 use crate::work::lone;
-use danivomel_tests::answers::Narrow;
+use danivomel_tests::calls::Narrow;
 use danivomel_tests::cases::groups::GroupCase;
 use danivomel_tests::independent::{self, GREATEST_SHARE};
 use std::hint::black_box;

@@ -5,12 +5,12 @@ use crate::check::{covers, same};
 use crate::gecode::{self, Form, Outcome, Posted};
 use crate::jobs::SEED;
 use crate::plain;
-use crate::planners::exact;
+use crate::planners::PLANNER;
 use crate::rational::{filter_on, filter_once};
 use crate::table::{digits, percent, Table};
 use crate::timing::{is_trial, median};
 use crate::work::{lone, values};
-use danivomel_tests::answers::{Limit, Limits};
+use danivomel::{Limit, Limits};
 use danivomel_tests::cases::groups::GroupCase;
 use danivomel_tests::random::Random;
 use std::thread;
@@ -96,7 +96,7 @@ fn known() {
     let (mut lows, mut highs) = ([0; 10], [1; 10]);
     let limits = Limits { deviation: Limit::AtMost(30), spread: Limit::Any };
     same("001's rule", "example 5", filter_on(&mut lows, &mut highs, 5, 30), true);
-    same("exact", "example 5", (exact().1)(&mut lows, &mut highs, 5, limits).is_err(), true);
+    same("exact", "example 5", danivomel::narrow(&mut lows, &mut highs, 5, limits).is_err(), true);
 }
 
 /// Sets of variables, each with domains between two random numbers from -50 to 50.
@@ -135,7 +135,7 @@ fn try_one(row: &mut Row, case: &GroupCase, limit: u64) {
     let expected = answer.is_ok().then_some(expected);
     let posted = Posted::of(&[lone(case)]);
     let filters: [Filter; FILTERS.len()] = [
-        &|lows, highs| exact().1(lows, highs, case.total, case.limits).is_ok(),
+        &|lows, highs| danivomel::narrow(lows, highs, case.total, case.limits).is_ok(),
         &|lows, highs| filter_once(lows, highs, case.total, limit),
         &|lows, highs| filter_on(lows, highs, case.total, limit),
         &|lows, highs| gecode::propagate(&posted, lows, highs, Form::Written).0 != Outcome::Refused,
@@ -144,7 +144,7 @@ fn try_one(row: &mut Row, case: &GroupCase, limit: u64) {
     for ((filter, name), found) in filters.into_iter().zip(FILTERS).zip(&mut row.found) {
         let after = found.try_filter(filter, case);
         if name == FILTERS[0] {
-            same(exact().0, "narrowed domains", &after, &expected);
+            same(PLANNER, "narrowed domains", &after, &expected);
         }
         if let Some(taken) = &expected {
             let left = after.expect("no filter refuses a consistent instance");

@@ -5,7 +5,8 @@ use crate::jobs::{long_text, sound_text};
 use crate::planners::{BISECTION, PLANNER, READS};
 use crate::table::{digits, Table};
 use crate::timing::{in_turn, Contender, Times};
-use danivomel_tests::answers::{Range, Read};
+use danivomel::Range;
+use danivomel_tests::calls::Read;
 use danivomel_tests::independent::{self, MOST_UNITS};
 use std::hint::black_box;
 

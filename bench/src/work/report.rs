@@ -5,7 +5,8 @@ use crate::jobs::job;
 use crate::planners::{BISECTION, PLANNER, REPORTS};
 use crate::table::{digits, Table};
 use crate::timing::{in_turn, Contender};
-use danivomel_tests::answers::{Range, Report};
+use danivomel::{Range, Reported};
+use danivomel_tests::calls::{self, Report};
 use danivomel_tests::cases::jobs::print_job;
 use danivomel_tests::independent::{self, MOST_BYTES, SCRATCH_PER_UNIT};
 use std::hint::black_box;
@@ -23,12 +24,12 @@ pub fn run() -> Table {
     for (groups, n) in [(8, 8), (64, 8), (16, 256)] {
         let settled = settled(groups, n);
         let mut buffer = vec![0; MOST_BYTES];
-        let length = settled.report(independent::report, &mut buffer);
-        let contenders = REPORTS.iter().map(|who| contender(*who, &settled, &buffer)).collect();
+        let expected = settled.report(independent::report, &mut buffer);
+        let contenders = REPORTS.iter().map(|who| contender(*who, &settled, expected, &buffer)).collect();
         let times = in_turn(contenders, 1);
         table.add(vec![
             format!("{groups} × {n}"),
-            length.to_string(),
+            expected.length.to_string(),
             digits(times.of(PLANNER)),
             digits(times.of(BISECTION)),
             digits(times.ratio(PLANNER, BISECTION)),
@@ -40,26 +41,31 @@ pub fn run() -> Table {
 /// A random job, settled.
 fn settled(groups: usize, n: usize) -> Settled {
     let job = job(groups, n);
-    let (text, mut table) = (print_job(&job), Range::table(&job.lows, &job.highs));
+    let (text, mut table) = (print_job(&job), calls::table(&job.lows, &job.highs));
     let mut scratch = vec![0; SCRATCH_PER_UNIT * table.len()];
     independent::settle(&text, &mut table, &mut scratch).expect("the job settles");
     Settled { text, table }
 }
 
 impl Settled {
-    /// Reports the job into a buffer; the report's length.
-    fn report(&self, report: Report, buffer: &mut [u8]) -> u64 {
+    /// Reports the job into a buffer.
+    fn report(&self, report: Report, buffer: &mut [u8]) -> Reported {
         let mut table = self.table.clone();
         let mut scratch = vec![0; SCRATCH_PER_UNIT * table.len()];
         report(&self.text, &mut table, &mut scratch, buffer).expect("the job is settled")
     }
 }
 
-/// A contender that reports, after its report was compared.
-fn contender<'a>(who: (&'static str, Report), settled: &'a Settled, expected: &[u8]) -> Contender<'a> {
+/// A contender that reports, after its answer and its report were compared.
+fn contender<'a>(
+    who: (&'static str, Report),
+    settled: &'a Settled,
+    answer: Reported,
+    expected: &[u8],
+) -> Contender<'a> {
     let (name, report) = who;
     let mut buffer = vec![0; MOST_BYTES];
-    settled.report(report, &mut buffer);
+    same(name, "reporting", settled.report(report, &mut buffer), answer);
     same(name, "report", buffer == expected, true);
     Contender::whole(name, move || {
         black_box(settled.report(report, black_box(&mut buffer)));

@@ -7,7 +7,8 @@ use crate::planners::{BISECTION, GECODE, GECODE_ALONE, PLANNER, ROWS, SETTLES};
 use crate::table::{digits, Table};
 use crate::timing::{in_turn, Contender, Times};
 use crate::work::values;
-use danivomel_tests::answers::{Range, Settle, Unsettled};
+use danivomel::Unsettled;
+use danivomel_tests::calls::{self, lists, Settle};
 use danivomel_tests::cases::jobs::print_job;
 use danivomel_tests::independent::reader::{read_job, Job};
 use danivomel_tests::independent::{self, SCRATCH_PER_UNIT};
@@ -85,10 +86,10 @@ fn cases() -> Vec<Case> {
 impl Case {
     /// A job with what the independent planner says of it.
     fn of(name: String, job: Job) -> Case {
-        let (text, mut table) = (print_job(&job), Range::table(&job.lows, &job.highs));
+        let (text, mut table) = (print_job(&job), calls::table(&job.lows, &job.highs));
         let mut scratch = vec![0; SCRATCH_PER_UNIT * table.len()];
         let answer = independent::settle(&text, &mut table, &mut scratch);
-        let (lows, highs) = Range::lists(&table);
+        let (lows, highs) = lists(&table);
         Case { name, job, text, answer, lows, highs }
     }
 
@@ -115,11 +116,11 @@ impl Case {
 /// A contender that settles a job from its opening table, after its answer and its table were compared.
 fn contender<'a>(who: (&'static str, Settle), case: &'a Case) -> Contender<'a> {
     let (name, settle) = who;
-    let opening = Range::table(&case.job.lows, &case.job.highs);
+    let opening = calls::table(&case.job.lows, &case.job.highs);
     let mut table = opening.clone();
     let mut scratch = vec![0; SCRATCH_PER_UNIT * table.len()];
     same(name, &case.name, settle(&case.text, &mut table, &mut scratch), case.answer);
-    same(name, &case.name, &table, &Range::table(&case.lows, &case.highs));
+    same(name, &case.name, &table, &calls::table(&case.lows, &case.highs));
     Contender::whole(name, move || {
         table.copy_from_slice(&opening);
         let _ = black_box(settle(black_box(&case.text), &mut table, &mut scratch));

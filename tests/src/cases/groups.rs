@@ -1,10 +1,10 @@
 //! Random groups: small ones that can be enumerated, and large ones to the edges of every range.
 
-use crate::answers::{Limit, Limits};
 use crate::enumerate::{deviation, spread, Range};
 use crate::independent::level::{each_levelled, figures, has_shares};
 use crate::independent::{GREATEST_DEVIATION, GREATEST_SHARE, GREATEST_SPREAD, MOST_UNITS};
 use crate::random::Random;
+use danivomel::{Limit, Limits};
 
 /// One group: its ranges, its total and its limits.
 #[derive(Clone, Debug, PartialEq, Eq)]

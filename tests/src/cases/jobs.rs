@@ -1,10 +1,10 @@
 //! Random sound jobs, and the printer of job texts.
 
-use crate::answers::{Limit, Limits};
 use crate::enumerate::{deviation, spread};
 use crate::independent::reader::{Group, Job};
 use crate::independent::{GREATEST_DEVIATION, GREATEST_SHARE, GREATEST_SPREAD};
 use crate::random::Random;
+use danivomel::{Limit, Limits};
 use std::fmt::Write;
 
 /// How large a random job is.

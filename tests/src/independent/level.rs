@@ -1,7 +1,7 @@
 //! Levelling one group: the level, the levelled shares and their figures, and the checks on lists of one group.
 
 use super::{GREATEST_SHARE, GREATEST_TOTAL, MOST_UNITS};
-use crate::answers::{Deviation, Levelled, Refusal, Spread};
+use danivomel::{Deviation, Levelled, Refusal, Spread};
 
 /// Levels a group and writes the shares to the plan; numbers past the members, and on a refusal all, keep their values.
 pub fn level(lows: &[u64], highs: &[u64], total: u64, plan: &mut [u64]) -> Result<Levelled, Refusal> {

@@ -2,7 +2,8 @@
 
 use super::level::{check_numbers, check_order, check_shape, check_top, deviation_part, each_levelled, has_shares};
 use super::{GREATEST_DEVIATION, GREATEST_SPREAD, GREATEST_TOTAL, MOST_UNITS};
-use crate::answers::{Deviation, Limit, Limits, Refusal, Spread};
+use crate::calls::met;
+use danivomel::{Deviation, Limit, Limits, Refusal, Spread};
 
 /// Narrows the ranges to the values that some plan takes; on a refusal they are as they were.
 pub fn narrow(lows: &mut [u64], highs: &mut [u64], total: u64, limits: Limits) -> Result<(), Refusal> {
@@ -54,7 +55,7 @@ fn limits_met(lows: &[u64], highs: &[u64], total: u64, limits: Limits) -> bool {
         deviation += deviation_part(n, share, total);
         squares += share * share;
     });
-    limits.met(Deviation(deviation), Spread(n * squares - total * total))
+    met(limits, Deviation(deviation), Spread(n * squares - total * total))
 }
 
 /// Whether some plan gives the member this value.

@@ -4,7 +4,8 @@ use super::{
     GREATEST_DEVIATION, GREATEST_SHARE, GREATEST_SPREAD, GREATEST_TOTAL, MOST_BYTES, MOST_GROUPS, MOST_MEMBERSHIPS,
     MOST_UNITS,
 };
-use crate::answers::{Counts, Limit, Limits, Range, Refusal};
+use crate::calls;
+use danivomel::{Counts, Limit, Limits, Range, Refusal};
 
 /// A group of a job; a member is its unit's number less 1.
 #[derive(Clone, Debug, PartialEq, Eq)]
@@ -29,8 +30,8 @@ pub fn read(text: &[u8], table: &mut [Range]) -> Result<Counts, Refusal> {
     if table.len() < units {
         return Err(Refusal { number: 1, place: 0 });
     }
-    table[..units].copy_from_slice(&Range::table(&job.lows, &job.highs));
-    Ok(Counts { units: units as u64, groups: job.groups.len() as u64 })
+    table[..units].copy_from_slice(&calls::table(&job.lows, &job.highs));
+    Ok(Counts { units, groups: job.groups.len() })
 }
 
 /// Reads a whole job text.

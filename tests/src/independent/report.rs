@@ -5,18 +5,20 @@ use super::narrow::narrow_members;
 use super::reader::{read, Job};
 use super::settle::settle_job;
 use super::{MOST_BYTES, MOST_UNITS, SCRATCH_PER_UNIT};
-use crate::answers::{Range, Refusal, Unsettled};
+use crate::calls::lists;
+use danivomel::{Range, Refusal, Reported, Unsettled};
 use std::fmt::Write;
 
-/// Settles the table, and writes the report into the buffer; on a refusal both are as they were. Answers the report's length.
-pub fn report(text: &[u8], table: &mut [Range], scratch: &mut [u64], buffer: &mut [u8]) -> Result<u64, Unsettled> {
+/// Settles the table, and writes the report into the buffer; on a refusal both are as they were. Answers the report's
+/// length and the passes.
+pub fn report(text: &[u8], table: &mut [Range], scratch: &mut [u64], buffer: &mut [u8]) -> Result<Reported, Unsettled> {
     if buffer.len() < MOST_BYTES {
         return Err(Unsettled { refusal: Refusal { number: 1, place: 0 }, passes: 0 });
     }
     let (job, passes) = settle_job(text, table, scratch.len(), narrow_members)?;
     let lines = report_lines(&job, passes, table);
     buffer[..lines.len()].copy_from_slice(lines.as_bytes());
-    Ok(lines.len() as u64)
+    Ok(Reported { length: lines.len(), passes })
 }
 
 /// The report's text for a settled table.
@@ -27,7 +29,7 @@ fn report_lines(job: &Job, passes: u64, table: &[Range]) -> String {
     }
     for (index, group) in job.groups.iter().enumerate() {
         let members: Vec<Range> = group.members.iter().map(|&unit| table[unit]).collect();
-        let (lows, highs) = Range::lists(&members);
+        let (lows, highs) = lists(&members);
         let mut plan = vec![0; members.len()];
         let levelled = level(&lows, &highs, group.total, &mut plan).expect("a settled group has a plan");
         let (deviation, spread) = (levelled.deviation.0, levelled.spread.0);
@@ -54,8 +56,8 @@ pub fn program(text: &[u8]) -> Vec<u8> {
     let mut scratch = [0; SCRATCH_PER_UNIT * MOST_UNITS];
     let mut buffer = vec![0; MOST_BYTES];
     match report(text, &mut table, &mut scratch, &mut buffer) {
-        Ok(length) => {
-            buffer.truncate(length as usize);
+        Ok(reported) => {
+            buffer.truncate(reported.length);
             buffer
         }
         Err(unsettled) => refusal_line(unsettled.refusal).into_bytes(),

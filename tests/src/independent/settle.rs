@@ -4,7 +4,8 @@ use super::level::{check_numbers, check_order};
 use super::narrow::narrow_members;
 use super::reader::{read_job, Group, Job};
 use super::{MOST_UNITS, SCRATCH_PER_UNIT};
-use crate::answers::{Limits, Range, Refusal, Unsettled};
+use crate::calls::{self, lists};
+use danivomel::{Limits, Range, Refusal, Unsettled};
 
 /// Narrows the members' lows and highs under a total and limits, or answers 11 or 12.
 pub type Narrowing = fn(&mut [u64], &mut [u64], u64, Limits) -> Result<(), u64>;
@@ -23,9 +24,9 @@ pub fn settle_job(
 ) -> Result<(Job, u64), Unsettled> {
     let job = check_job(text, table, scratch).map_err(|refusal| Unsettled { refusal, passes: 0 })?;
     let opening = &mut table[..job.lows.len()];
-    let (mut lows, mut highs) = Range::lists(opening);
+    let (mut lows, mut highs) = lists(opening);
     let passes = settle_groups(&job.groups, &mut lows, &mut highs, narrow)?;
-    opening.copy_from_slice(&Range::table(&lows, &highs));
+    opening.copy_from_slice(&calls::table(&lows, &highs));
     Ok((job, passes))
 }
 
@@ -36,7 +37,7 @@ fn check_job(text: &[u8], table: &[Range], scratch: usize) -> Result<Job, Refusa
     if table.len() < units || scratch < SCRATCH_PER_UNIT * units {
         return Err(Refusal { number: 1, place: 0 });
     }
-    let (lows, highs) = Range::lists(&table[..units]);
+    let (lows, highs) = lists(&table[..units]);
     check_numbers(&lows, &highs)?;
     check_order(&lows, &highs)?;
     Ok(job)

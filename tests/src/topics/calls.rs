@@ -3,8 +3,9 @@
 
 use super::faults::{each_combination, fault, Fault};
 use super::{marks, with_spare};
-use crate::answers::{Range, Read, Refusal, Report, Settle, Unsettled};
+use crate::calls::{Read, Report, Settle};
 use crate::check::Checks;
+use danivomel::{Range, Refusal, Unsettled};
 
 /// What a call on a job text gets.
 #[derive(Clone, Debug, PartialEq, Eq)]

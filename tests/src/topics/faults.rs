@@ -1,6 +1,6 @@
 //! Faults put into a sound call in every combination: so every refusal is tried with every other one behind it.
 
-use crate::answers::Refusal;
+use danivomel::Refusal;
 
 /// A fault, and the refusal that it causes where no earlier fault is there.
 pub struct Fault<Call> {

@@ -1,11 +1,12 @@
 //! Levelling one group: the known shares, enumeration, the edges of every range, and laws of large groups.
 
 use super::marks;
-use crate::answers::{Deviation, Level, Levelled, Refusal, Spread};
+use crate::calls::Level;
 use crate::cases::groups::{large, small, GroupCase};
 use crate::check::{Checks, Topic};
 use crate::enumerate::{self, above, deviation, deviation_bound, share_lists, spread, total_at};
 use crate::independent::{self, GREATEST_SHARE, MOST_UNITS};
+use danivomel::{Deviation, Levelled, Refusal, Spread};
 
 /// What a levelling should answer: the figures and the shares, or a refusal.
 type Expected = Result<(Levelled, Vec<u64>), Refusal>;
@@ -78,8 +79,9 @@ fn known(topic: &mut Topic, level: Level) {
 
 /// What enumeration says of a levelling.
 fn by_enumeration(case: &GroupCase, lists: &[Vec<u64>]) -> Expected {
-    let Some(plan) = enumerate::levelled(lists, case.total) else {
-        return refused(11, 0);
+    let plan = match enumerate::levelled(lists, case.total) {
+        Some(plan) => plan,
+        None => return refused(11, 0),
     };
     let level = enumerate::level(&case.ranges(), case.total).expect("the lows are within the total");
     Ok((Levelled { level, deviation: deviation(plan, case.total), spread: spread(plan, case.total) }, plan.clone()))
@@ -193,6 +195,6 @@ fn levelled_by_law(topic: &mut Topic, case: &GroupCase, levelled: Levelled, plan
     topic.same(case, "deviation", levelled.deviation, deviation(plan, case.total));
     topic.same(case, "spread", levelled.spread, spread(plan, case.total));
     let bound = deviation_bound(&ranges, case.total);
-    let divides = case.total.is_multiple_of(ranges.len() as u64);
+    let divides = case.total % ranges.len() as u64 == 0;
     topic.holds(case, "bound", levelled.deviation.0 >= bound && (!divides || levelled.deviation.0 == bound));
 }

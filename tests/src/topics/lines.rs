@@ -1,7 +1,7 @@
 //! The order of refusals in a job text: every set of faults on one line, and every pair of faults on two lines.
 
 use super::read::{rebuilt, refused};
-use crate::answers::Read;
+use crate::calls::Read;
 use crate::check::{Checks, Topic};
 
 /// Tries the order of a planner's refusals while reading.

@@ -3,8 +3,9 @@
 
 use super::faults::{each_combination, fault, Fault};
 use super::marks;
-use crate::answers::{Level, Limit, Limits, Narrow};
+use crate::calls::{Level, Narrow};
 use crate::check::Checks;
+use danivomel::{Limit, Limits};
 
 /// What a call on lists gets.
 #[derive(Clone, Debug, PartialEq, Eq)]

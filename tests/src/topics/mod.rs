@@ -6,6 +6,7 @@ pub mod faults;
 pub mod judge;
 pub mod level;
 pub mod lines;
+pub mod linked;
 pub mod lists;
 pub mod narrow;
 pub mod program;
@@ -14,7 +15,7 @@ pub mod report;
 pub mod settle;
 pub mod tables;
 
-use crate::answers::Range;
+use danivomel::Range;
 
 /// A value that no call writes, to see that a number kept its value.
 pub fn mark(index: usize) -> u64 {

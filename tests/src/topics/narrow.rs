@@ -1,10 +1,11 @@
 //! Narrowing one group: the known ranges, enumeration of plans, the specification's wrong turns, laws of large groups.
 
-use crate::answers::{Limit, Narrow, Refusal};
+use crate::calls::Narrow;
 use crate::cases::groups::{large, limits_near, limits_of, small, GroupCase};
 use crate::check::{Checks, Topic};
 use crate::enumerate::{plans, share_lists, values_taken, Range};
 use crate::independent::{self, narrow::taken, MOST_UNITS};
+use danivomel::{Limit, Refusal};
 use Limit::{Any, AtMost};
 
 /// What a narrowing should leave: the ranges, or a refusal.

@@ -1,12 +1,13 @@
 //! Reading job texts: sound jobs, damaged ones, and the edges of every range from both sides.
 
 use super::marked;
-use crate::answers::{Counts, Range, Read, Refusal};
+use crate::calls::{self, Read};
 use crate::cases::damage::damage;
 use crate::cases::jobs::{print_job, sound, MIDDLE, TINY, WIDE};
 use crate::check::{Checks, Topic};
 use crate::independent::reader::Job;
 use crate::{independent, rebuild};
+use danivomel::{Counts, Range, Refusal};
 use std::fmt::{Debug, Formatter};
 
 /// A text that is printed as text where a case fails.
@@ -50,10 +51,10 @@ pub fn refused(topic: &mut Topic, read: Read, text: &[u8], number: u64, place: u
 }
 
 /// Checks that a text is read as a number of units and groups.
-fn accepted(topic: &mut Topic, read: Read, text: &[u8], units: u64, groups: u64) {
+fn accepted(topic: &mut Topic, read: Read, text: &[u8], units: usize, groups: usize) {
     let (answer, table) = attempt(read, text, 256);
     topic.same(&Shown(text), "counts", answer, Ok(Counts { units, groups }));
-    topic.same(&Shown(text), "entries past the units", &table[units as usize..], &marked(256)[units as usize..]);
+    topic.same(&Shown(text), "entries past the units", &table[units..], &marked(256)[units..]);
 }
 
 /// Jobs that were printed: the ranges come back, and what is past them keeps its value; a table too short is 1.
@@ -64,8 +65,8 @@ fn sound_jobs(topic: &mut Topic, read: Read) {
         let text = print_job(&job);
         let units = job.lows.len();
         let mut filled = marked(units + 2);
-        filled[..units].copy_from_slice(&Range::table(&job.lows, &job.highs));
-        let counts = Counts { units: units as u64, groups: job.groups.len() as u64 };
+        filled[..units].copy_from_slice(&calls::table(&job.lows, &job.highs));
+        let counts = Counts { units, groups: job.groups.len() };
         topic.same(&job, "answer and table", attempt(read, &text, units + 2), (Ok(counts), filled));
         let short = attempt(read, &text, units - 1);
         let refusal = Err(Refusal { number: 1, place: 0 });
@@ -94,7 +95,7 @@ fn damaged_jobs(topic: &mut Topic, read: Read) {
 /// Holds a text's reading to the reader that prints each line anew.
 pub fn rebuilt(topic: &mut Topic, read: Read, text: &[u8]) {
     match rebuild::read(text) {
-        Ok((units, groups)) => accepted(topic, read, text, units, groups),
+        Ok((units, groups)) => accepted(topic, read, text, units as usize, groups as usize),
         Err(Refusal { number, place }) => refused(topic, read, text, number, place),
     }
 }
@@ -120,7 +121,7 @@ fn edges(topic: &mut Topic, read: Read) {
     refused(topic, read, &repeated(&units, &wide, 63, &one_more), 6, 128);
     for (line, number) in number_edges() {
         let text = format!("{unit}{line}").into_bytes();
-        let is_unit = u64::from(line.starts_with("(unit"));
+        let is_unit = usize::from(line.starts_with("(unit"));
         match number {
             0 => accepted(topic, read, &text, 1 + is_unit, 1 - is_unit),
             _ => refused(topic, read, &text, number, 2),

@@ -3,11 +3,12 @@
 use super::read::Shown;
 use super::settle::WORKED;
 use super::{marks, with_spare};
-use crate::answers::{self, Limits, Refusal, Report, Unsettled};
+use crate::calls::Report;
 use crate::cases::jobs::{print_job, sound, MIDDLE, TINY};
 use crate::check::{Checks, Topic};
 use crate::enumerate::{self, Range};
 use crate::independent::{self, reader::Job};
+use danivomel::{Limits, Refusal, Reported, Unsettled};
 
 /// The report of the specification's worked job.
 pub const WORKED_REPORT: &str =
@@ -17,7 +18,7 @@ pub const WORKED_REPORT: &str =
 const FILL: u8 = 0xa5;
 
 /// What a call left: its answer, the table and the buffer.
-type Left = (Result<u64, Unsettled>, Vec<answers::Range>, Vec<u8>);
+type Left = (Result<Reported, Unsettled>, Vec<danivomel::Range>, Vec<u8>);
 
 /// Tries a planner's report.
 pub fn run(checks: &mut Checks, who: &str, report: Report) {
@@ -53,16 +54,17 @@ fn attempt(report: Report, text: &[u8], opening: &[Range], length: usize) -> Lef
     (answer, table, buffer)
 }
 
-/// Checks a whole report: the answer, the settled table, the bytes, and the bytes past them.
-fn check(topic: &mut Topic, report: Report, text: &[u8], opening: &[Range], expected: (&str, Vec<Range>)) {
+/// Checks a whole report: the answer with its passes, the bytes, the bytes past them, and the settled table.
+fn check(topic: &mut Topic, report: Report, text: &[u8], opening: &[Range], expected: (u64, &str, Vec<Range>)) {
+    let (passes, lines, settled) = expected;
     let length = 65_536 + topic.random.index(3);
     let mut buffer = vec![FILL; length];
-    buffer[..expected.0.len()].copy_from_slice(expected.0.as_bytes());
+    buffer[..lines.len()].copy_from_slice(lines.as_bytes());
     let (answer, table, found) = attempt(report, text, opening, length);
     let case = Shown(text);
-    topic.same(&case, "answer", answer, Ok(expected.0.len() as u64));
-    topic.same(&case, "settled table", table, with_spare(&expected.1));
-    topic.same(&case, "report", Shown(&found[..expected.0.len()]), Shown(expected.0.as_bytes()));
+    topic.same(&case, "answer", answer, Ok(Reported { length: lines.len(), passes }));
+    topic.same(&case, "settled table", table, with_spare(&settled));
+    topic.same(&case, "report", Shown(&found[..lines.len()]), Shown(lines.as_bytes()));
     topic.holds(&case, "buffer", found == buffer);
 }
 
@@ -74,10 +76,10 @@ impl PartialEq for Shown<'_> {
 
 /// The worked job of the specification, and single units.
 fn worked(topic: &mut Topic, report: Report) {
-    check(topic, report, WORKED.as_bytes(), &[(0, 10); 3], (WORKED_REPORT, vec![(5, 6), (4, 5), (3, 4)]));
-    check(topic, report, b"(unit 3 8)\n", &[(3, 8)], ("(settled 1)\n(unit 1 3 8)\n", vec![(3, 8)]));
+    check(topic, report, WORKED.as_bytes(), &[(0, 10); 3], (3, WORKED_REPORT, vec![(5, 6), (4, 5), (3, 4)]));
+    check(topic, report, b"(unit 3 8)\n", &[(3, 8)], (1, "(settled 1)\n(unit 1 3 8)\n", vec![(3, 8)]));
     let one = "(settled 2)\n(unit 1 7 7)\n(group 1 1000000 0 0 (plan 7))\n";
-    check(topic, report, b"(unit 3 8)\n(group 7 (dev any) (spread any) (of 1))\n", &[(3, 8)], (one, vec![(7, 7)]));
+    check(topic, report, b"(unit 3 8)\n(group 7 (dev any) (spread any) (of 1))\n", &[(3, 8)], (2, one, vec![(7, 7)]));
 }
 
 /// The report that enumeration gives for a job.
@@ -106,7 +108,7 @@ fn enumerated(topic: &mut Topic, report: Report) {
         let opening = opening_of(&job);
         let mut table = opening.clone();
         match enumerate::settle(&job.groups, &mut table) {
-            Ok(passes) => check(topic, report, &text, &opening, (&by_enumeration(&job, passes, &table), table)),
+            Ok(passes) => check(topic, report, &text, &opening, (passes, &by_enumeration(&job, passes, &table), table)),
             Err((number, place, passes)) => {
                 refused(
                     topic,
@@ -131,7 +133,7 @@ fn refused(topic: &mut Topic, report: Report, text: &[u8], opening: &[Range], le
 
 /// 256 units and 4,096 memberships with long numbers: the report fits.
 fn largest(topic: &mut Topic, report: Report) {
-    let range = |unit: usize| if unit.is_multiple_of(2) { (1_000_000, 1_000_000) } else { (100_000, 100_000) };
+    let range = |unit: usize| if unit % 2 == 0 { (1_000_000, 1_000_000) } else { (100_000, 100_000) };
     let opening: Vec<Range> = (0..256).map(range).collect();
     let (lows, highs) = opening.iter().copied().unzip();
     let mut job = Job { lows, highs, groups: vec![] };
@@ -142,11 +144,11 @@ fn largest(topic: &mut Topic, report: Report) {
     }
     let text = print_job(&job);
     let expected = attempt(independent::report, &text, &opening, 65_536);
-    topic.same(&"the largest report", "length", expected.0.map(|length| length > 38_000), Ok(true));
+    topic.same(&"the largest report", "length", expected.0.map(|reported| reported.length > 38_000), Ok(true));
     let plan: String = (0..32).map(|_| " 1000000 100000").collect();
     let line = format!("(group 64 1000000 {} {} (plan{plan}))\n", 64 * 64 * 450_000u64, 64u64 * 64 * 450_000 * 450_000);
     let (answer, table, buffer) = attempt(report, &text, &opening, 65_536);
-    let length = answer.unwrap_or(0) as usize;
+    let length = answer.map_or(0, |reported| reported.length);
     topic.same(
         &"the largest report",
         "last line",

@@ -2,11 +2,12 @@
 
 use super::read::Shown;
 use super::{marks, pairs_of, table_of, with_spare};
-use crate::answers::{Refusal, Settle, Unsettled};
+use crate::calls::Settle;
 use crate::cases::jobs::{other_table, print_job, sound, MIDDLE, WIDE};
 use crate::check::{Checks, Topic};
 use crate::enumerate::{self, suits_all, Range};
 use crate::independent::{self, reader::read_job};
+use danivomel::{Refusal, Unsettled};
 
 /// The specification's worked job.
 pub const WORKED: &str = "(unit 0 10)\n(unit 0 10)\n(unit 0 10)\n(group 10 (dev 4) (spread any) (of 1 2))\n(group 8 (dev any) (spread 4) (of 2 3))\n";
@@ -84,7 +85,7 @@ fn slow(topic: &mut Topic, settle: Settle) {
         let group = |total, of| format!("(group {total} (dev any) (spread any) (of {of}))\n");
         let units = format!("(unit 0 {width})\n").repeat(2);
         let text = format!("{units}{}{}", group(width, "1 2"), group(width + 1, "2 1"));
-        let (place, passes) = (2 - width % 2, width.div_ceil(2) + 1);
+        let (place, passes) = (2 - width % 2, (width + 1) / 2 + 1);
         check(topic, settle, text.as_bytes(), &[(0, width); 2], no_plan(11, place, passes));
         if width <= 12 {
             let groups = read_job(text.as_bytes()).map(|job| job.groups).unwrap_or_default();

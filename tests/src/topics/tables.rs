@@ -2,7 +2,7 @@
 
 use super::settle::{check, no_plan, Expected};
 use super::{pairs_of, table_of};
-use crate::answers::Settle;
+use crate::calls::Settle;
 use crate::cases::jobs::{other_table, print_job, sound, MIDDLE, TINY};
 use crate::check::{Checks, Topic};
 use crate::enumerate::{self, inside, tables_at_rest, Range};
@@ -63,8 +63,9 @@ fn laws(topic: &mut Topic, settle: Settle) {
         let job = sound(&mut topic.random, MIDDLE);
         let opening = opening_of(topic, &job);
         let text = print_job(&job);
-        let Some((passes, table)) = settled(settle, &text, &opening) else {
-            continue;
+        let (passes, table) = match settled(settle, &text, &opening) {
+            Some(found) => found,
+            None => continue,
         };
         let case = (&job, &opening);
         let room: u64 = opening.iter().map(|range| range.1 - range.0).sum();

@@ -1,0 +1,74 @@
+//! What the calls take and answer.
+
+/// The deviation of n shares: the sum of |n × share − total|. Divided by n it is in copies.
+#[repr(C)]
+#[derive(Clone, Copy, Debug, PartialEq, Eq, PartialOrd, Ord)]
+pub struct Deviation(pub u64);
+
+/// The spread of n shares: n × (sum of squared shares) − total × total.
+#[repr(C)]
+#[derive(Clone, Copy, Debug, PartialEq, Eq, PartialOrd, Ord)]
+pub struct Spread(pub u64);
+
+/// A limit of a figure.
+#[derive(Clone, Copy, Debug, PartialEq, Eq)]
+pub enum Limit {
+    /// Limits nothing.
+    Any,
+    /// The figure is at most this number.
+    AtMost(u64),
+}
+
+/// The two limits of a group.
+#[derive(Clone, Copy, Debug, PartialEq, Eq)]
+pub struct Limits {
+    /// The deviation's limit, a number from 0 to 100,000,000,000.
+    pub deviation: Limit,
+    /// The spread's limit, a number from 0 to 100,000,000,000,000,000.
+    pub spread: Limit,
+}
+
+impl Limits {
+    /// Limits that allow everything.
+    pub const ANY: Limits = Limits { deviation: Limit::Any, spread: Limit::Any };
+}
+
+/// The range of a unit, from 0 to 1,000,000: an entry of a table. Unit 1 is the table's first entry.
+#[repr(C)]
+#[derive(Clone, Copy, Debug, Default, PartialEq, Eq)]
+pub struct Range {
+    /// The fewest copies that the unit can take.
+    pub low: u64,
+    /// The most copies that the unit can take.
+    pub high: u64,
+}
+
+/// What levelling answers beside the shares.
+#[derive(Clone, Copy, Debug, PartialEq, Eq)]
+pub struct Levelled {
+    /// Each member takes this share, or its own low or high where the level is outside; copies left over go one each to
+    /// the first members that can take one more. 1,000,000 where all members are at their highs.
+    pub level: u64,
+    /// The shares' deviation, the least that can be had.
+    pub deviation: Deviation,
+    /// The shares' spread, the least that can be had.
+    pub spread: Spread,
+}
+
+/// What reading a job text answers.
+#[derive(Clone, Copy, Debug, PartialEq, Eq)]
+pub struct Counts {
+    /// How many units the job has: the table's first so many entries are filled.
+    pub units: usize,
+    /// How many groups the job has.
+    pub groups: usize,
+}
+
+/// What reporting answers.
+#[derive(Clone, Copy, Debug, PartialEq, Eq)]
+pub struct Reported {
+    /// How many bytes of the buffer the report has.
+    pub length: usize,
+    /// The passes of the settling, the quiet one counted.
+    pub passes: u64,
+}

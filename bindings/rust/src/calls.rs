@@ -1,0 +1,154 @@
+//! The five calls.
+
+use crate::foreign::{danivomel_level, danivomel_narrow, danivomel_read, danivomel_report, danivomel_settle};
+use crate::{Counts, Levelled, Limits, Range, Refusal, Reported, Unsettled};
+
+/// A refusal as an error, and number 0 as none.
+fn accepted(refusal: Refusal) -> Result<(), Refusal> {
+    match refusal.number {
+        0 => Ok(()),
+        _ => Err(refusal),
+    }
+}
+
+/// Levels a group: writes the most even shares within the lows and highs that add up to the total to the first numbers
+/// of the plan, and answers the level and the figures. No other such shares have a lesser deviation or spread.
+///
+/// # Errors
+///
+/// In this order: 1 for lists empty, of unequal length, over 256, or a plan shorter than the group; 4 for a number of a
+/// unit beyond its range, place the unit, then for the total, place 0; 7 for a low above its high, place the unit; 11
+/// for a total out of reach, place 0. The plan is then as it was.
+///
+/// ```
+/// use danivomel::{level, Deviation, Spread};
+/// let mut plan = [0; 4];
+/// let levelled = level(&[8, 4, 1, 3], &[10, 7, 5, 4], 20, &mut plan).unwrap();
+/// assert_eq!(plan, [8, 4, 4, 4]);
+/// assert_eq!((levelled.level, levelled.deviation, levelled.spread), (4, Deviation(24), Spread(48)));
+/// assert_eq!(level(&[8, 4], &[10, 7], 18, &mut plan).unwrap_err().number, 11);
+/// ```
+pub fn level(lows: &[u64], highs: &[u64], total: u64, plan: &mut [u64]) -> Result<Levelled, Refusal> {
+    // SAFETY: each pointer and count is a slice's, and no other slice overlaps the plan, which is borrowed mutably.
+    let answer = unsafe {
+        danivomel_level(lows.as_ptr(), lows.len(), highs.as_ptr(), highs.len(), total, plan.as_mut_ptr(), plan.len())
+    };
+    accepted(answer.refusal)?;
+    Ok(Levelled { level: answer.level, deviation: answer.deviation, spread: answer.spread })
+}
+
+/// Narrows a group in place: leaves for each member exactly the values that some plan takes, where a plan is a choice
+/// of shares within the lows and highs at the call that add up to the total and are within both limits.
+///
+/// # Errors
+///
+/// As [`level`] does up to 11, with 4 for the limits too, place 0; then 12 where shares exist and none is within the
+/// limits, place 0. The lists are then as they were.
+///
+/// ```
+/// use danivomel::{narrow, Limit, Limits};
+/// let (mut lows, mut highs) = ([8, 4, 1, 3], [10, 7, 5, 4]);
+/// let limits = Limits { deviation: Limit::AtMost(28), spread: Limit::Any };
+/// narrow(&mut lows, &mut highs, 20, limits).unwrap();
+/// assert_eq!((lows, highs), ([8, 4, 3, 3], [8, 5, 5, 4]));
+/// ```
+pub fn narrow(lows: &mut [u64], highs: &mut [u64], total: u64, limits: Limits) -> Result<(), Refusal> {
+    // SAFETY: each pointer and count is a slice's, and the slices do not overlap, since both are borrowed mutably.
+    accepted(unsafe {
+        danivomel_narrow(lows.as_mut_ptr(), lows.len(), highs.as_mut_ptr(), highs.len(), total, limits.into())
+    })
+}
+
+/// Reads a job text into a table, which then begins with the ranges of the unit lines; entries past the units keep
+/// their values.
+///
+/// # Errors
+///
+/// In this order: 2 for a text over 65,536 bytes; the lowest of 3 to 9 at the first bad line, place the line; 10 for no
+/// unit line; 1 for a table too short for the units. The table is then as it was.
+///
+/// ```
+/// use danivomel::{read, Range};
+/// let mut table = [Range { low: 9, high: 9 }; 3];
+/// let counts = read(b"(unit 0 5)\n(unit 1 4)\n", &mut table).unwrap();
+/// assert_eq!((counts.units, counts.groups), (2, 0));
+/// assert_eq!(table, [Range { low: 0, high: 5 }, Range { low: 1, high: 4 }, Range { low: 9, high: 9 }]);
+/// ```
+pub fn read(text: &[u8], table: &mut [Range]) -> Result<Counts, Refusal> {
+    // SAFETY: each pointer and count is a slice's, no other slice overlaps the table, which is borrowed mutably, and a
+    // range is laid out as the archive's: both are repr(C).
+    let answer = unsafe { danivomel_read(text.as_ptr(), text.len(), table.as_mut_ptr(), table.len()) };
+    accepted(answer.refusal)?;
+    Ok(Counts { units: answer.units, groups: answer.groups })
+}
+
+/// Settles a table under the groups of a job text: opens with the ranges that it holds, and leaves the greatest ranges
+/// inside them in which each value is taken, in each of its unit's groups, by a plan drawn from them. Answers the
+/// passes; entries past the units keep their values.
+///
+/// The scratch has [`SCRATCH_PER_UNIT`](crate::SCRATCH_PER_UNIT) numbers a unit; what it held changes nothing, and it
+/// holds anything afterwards.
+///
+/// # Errors
+///
+/// As [`read`] does up to 10; 1 for a table or scratch too short for the units; 4, then 7 for the table's ranges, place
+/// the first such unit; 11 and 12 where no such ranges exist, place the group. The table is then as it was.
+///
+/// ```
+/// use danivomel::{settle, Range};
+/// let job = b"(unit 0 10)\n(unit 0 10)\n(group 10 (dev 4) (spread any) (of 1 2))\n";
+/// let mut table = [Range { low: 0, high: 10 }; 2];
+/// assert_eq!(settle(job, &mut table, &mut [0; 16]), Ok(2));
+/// assert_eq!(table, [Range { low: 4, high: 6 }; 2]);
+/// ```
+pub fn settle(text: &[u8], table: &mut [Range], scratch: &mut [u64]) -> Result<u64, Unsettled> {
+    // SAFETY: as for reading, and the slices do not overlap, since two are borrowed mutably.
+    let answer = unsafe {
+        danivomel_settle(
+            text.as_ptr(),
+            text.len(),
+            table.as_mut_ptr(),
+            table.len(),
+            scratch.as_mut_ptr(),
+            scratch.len(),
+        )
+    };
+    accepted(answer.refusal).map_err(|refusal| Unsettled { refusal, passes: answer.passes })?;
+    Ok(answer.passes)
+}
+
+/// Settles as [`settle`] does and writes the report to the start of the buffer, which has at least
+/// [`BUFFER_BYTES`](crate::BUFFER_BYTES) bytes; answers the report's length and the passes. Bytes past the report keep
+/// their values.
+///
+/// # Errors
+///
+/// 1 for a shorter buffer first, then as [`settle`] does. Table and buffer are then as they were.
+///
+/// ```
+/// use danivomel::{report, Range, BUFFER_BYTES, SCRATCH_PER_UNIT};
+/// let job = b"(unit 3 8)\n(unit 0 9)\n(group 10 (dev any) (spread any) (of 1 2))\n";
+/// let mut table = [Range { low: 3, high: 8 }, Range { low: 0, high: 9 }];
+/// let mut buffer = vec![0; BUFFER_BYTES];
+/// let reported = report(job, &mut table, &mut [0; 2 * SCRATCH_PER_UNIT], &mut buffer).unwrap();
+/// let text = b"(settled 2)\n(unit 1 3 8)\n(unit 2 2 7)\n(group 1 5 0 0 (plan 5 5))\n";
+/// assert_eq!(buffer[..reported.length], text[..]);
+/// assert_eq!(reported.passes, 2);
+/// ```
+pub fn report(text: &[u8], table: &mut [Range], scratch: &mut [u64], buffer: &mut [u8]) -> Result<Reported, Unsettled> {
+    // SAFETY: as for reading, and the slices do not overlap, since three are borrowed mutably.
+    let answer = unsafe {
+        danivomel_report(
+            text.as_ptr(),
+            text.len(),
+            table.as_mut_ptr(),
+            table.len(),
+            scratch.as_mut_ptr(),
+            scratch.len(),
+            buffer.as_mut_ptr(),
+            buffer.len(),
+        )
+    };
+    accepted(answer.refusal).map_err(|refusal| Unsettled { refusal, passes: answer.passes })?;
+    Ok(Reported { length: answer.length, passes: answer.passes })
+}

@@ -1,0 +1,107 @@
+//! The functions of libplanner.a and what crosses to them, as include/danivomel.h has it.
+
+use crate::{Deviation, Limit, Limits, Range, Refusal, Spread};
+
+/// What levelling answers; here and below a refusal's number 0 says that there is none.
+#[repr(C)]
+pub struct ForeignLevelled {
+    pub refusal: Refusal,
+    pub level: u64,
+    pub deviation: Deviation,
+    pub spread: Spread,
+}
+
+/// A limit.
+#[repr(C)]
+pub struct ForeignLimit {
+    any: bool,
+    at_most: u64,
+}
+
+/// A group's limits.
+#[repr(C)]
+pub struct ForeignLimits {
+    deviation: ForeignLimit,
+    spread: ForeignLimit,
+}
+
+impl From<Limit> for ForeignLimit {
+    fn from(limit: Limit) -> ForeignLimit {
+        match limit {
+            Limit::Any => ForeignLimit { any: true, at_most: 0 },
+            Limit::AtMost(at_most) => ForeignLimit { any: false, at_most },
+        }
+    }
+}
+
+impl From<Limits> for ForeignLimits {
+    fn from(limits: Limits) -> ForeignLimits {
+        ForeignLimits { deviation: limits.deviation.into(), spread: limits.spread.into() }
+    }
+}
+
+/// What reading answers.
+#[repr(C)]
+pub struct ForeignCounts {
+    pub refusal: Refusal,
+    pub units: usize,
+    pub groups: usize,
+}
+
+/// What settling answers.
+#[repr(C)]
+pub struct ForeignSettled {
+    pub refusal: Refusal,
+    pub passes: u64,
+}
+
+/// What reporting answers.
+#[repr(C)]
+pub struct ForeignReported {
+    pub refusal: Refusal,
+    pub passes: u64,
+    pub length: usize,
+}
+
+extern "C" {
+    pub fn danivomel_level(
+        lows: *const u64,
+        lows_count: usize,
+        highs: *const u64,
+        highs_count: usize,
+        total: u64,
+        plan: *mut u64,
+        plan_count: usize,
+    ) -> ForeignLevelled;
+
+    pub fn danivomel_narrow(
+        lows: *mut u64,
+        lows_count: usize,
+        highs: *mut u64,
+        highs_count: usize,
+        total: u64,
+        limits: ForeignLimits,
+    ) -> Refusal;
+
+    pub fn danivomel_read(text: *const u8, text_count: usize, table: *mut Range, table_count: usize) -> ForeignCounts;
+
+    pub fn danivomel_settle(
+        text: *const u8,
+        text_count: usize,
+        table: *mut Range,
+        table_count: usize,
+        scratch: *mut u64,
+        scratch_count: usize,
+    ) -> ForeignSettled;
+
+    pub fn danivomel_report(
+        text: *const u8,
+        text_count: usize,
+        table: *mut Range,
+        table_count: usize,
+        scratch: *mut u64,
+        scratch_count: usize,
+        buffer: *mut u8,
+        buffer_count: usize,
+    ) -> ForeignReported;
+}
