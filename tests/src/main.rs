@@ -26,7 +26,7 @@ fn main() -> ExitCode {
 
 /// The seed, 1 where none is given; or what is wrong with the call.
 fn seed_if_ready() -> Result<u64, String> {
-    let built = [program::SETTLE, linked::C_PROGRAM].into_iter().chain(linked::EVENINGS);
+    let built = [program::SETTLE, linked::C_PROGRAM, linked::PRESS].into_iter().chain(linked::EVENINGS);
     if let Some(missing) = built.into_iter().find(|path| !Path::new(path).is_file()) {
         return Err(format!("{missing} is not there; tests/run builds it"));
     }
