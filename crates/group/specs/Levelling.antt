@@ -1,12 +1,11 @@
 -- What levelling one group on lists answers, and the plan list after it. Assumes nothing.
-use Prim.Native.Nat.{ℕ, _≤_}
+use Prim.Native.Nat.{ℕ}
 use mathlib.Core.Bool.{true}
 use mathlib.Core.Path.{_≡_}
-use borrow.Author.Tests.{le-leb}
 use mathlib.Core.List.{List, _++_}
 use lib.Dec.{leb}
 use lib.ListN.{length, drop}
-use Rattle.model.specs.Shares.{pick, greatestShare, checked}
+use Rattle.model.specs.Shares.{pick}
 use Rattle.model.specs.declared.Share.{Share}
 use Rattle.model.specs.declared.Checked.{Checked}
 use Rattle.model.specs.declared.Checked.the-variants.{Valid}
@@ -44,10 +43,6 @@ levelling lows highs total room = afterCheck (checkLists lows highs room (leb to
 abbrev pub planAfter : Levelling → List ℕ → List ℕ → List ℕ
 planAfter (Levelled v d s) shares plan = shares ++ drop (length shares) plan
 planAfter (Refused refusal) shares plan = plan
-
--- a level is a share: its check finds it valid
-pub valid-share : (v : ℕ) (answer : Checked) → v ≤ greatestShare → answer ≡ checked v → answer ≡ Valid (record { copies = v })
-valid-share v answer small is-checked = rw (is-checked, le-leb _ _ small)
 
 -- the answer where shares exist
 pub levelled-answer : (lows highs : List ℕ) (total v : ℕ) (answer : Checked) (share : Share) (figures : Figures)

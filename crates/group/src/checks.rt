@@ -4,15 +4,29 @@ use crate::GREATEST_COUNT;
 use crate::GREATEST_DEVIATION;
 use crate::GREATEST_SPREAD;
 use crate::GREATEST_TOTAL;
+use model::Checked;
 use model::Limit;
 use model::Limits;
 use model::Refusal;
 use model::Share;
 ghost use mathlib.Core.Path.{_≡_};
 ghost use lib.ListN.{length};
-ghost use Rattle.group.specs.Checks.{firstBeyond, firstCrossed, sized, limitWithin, amountsWithin, refuseIf, checkLists};
+ghost use Rattle.group.specs.Checks.{areShares, firstBeyond, firstCrossed, sized, limitWithin, amountsWithin, refuseIf, checkLists};
 ghost use Rattle.group.specs.declared.Check.the-variants.{Passed};
 ghost use mathlib.Core.Bool.{true};
+
+// Whether both ends of a range are shares.
+fn are_shares(low: u64, high: u64) -> bool
+    ensures { λ r. ⌜ r ≡ areShares low high ⌝ }
+{
+    let Checked::Valid(_) = Share::new(low) else {
+        return false;
+    };
+    let Checked::Valid(_) = Share::new(high) else {
+        return false;
+    };
+    true
+}
 
 // The place of the first unit with a number beyond the greatest share; 0 where there is none.
 pub fn first_beyond(lows: &[u64], highs: &[u64]) -> u64
@@ -21,10 +35,7 @@ pub fn first_beyond(lows: &[u64], highs: &[u64]) -> u64
 {
     let mut i: usize = 0;
     while i < lows.len() {
-        if Share::GREATEST < lows[i] {
-            return i as u64 + 1;
-        }
-        if Share::GREATEST < highs[i] {
+        if !are_shares(lows[i], highs[i]) {
             return i as u64 + 1;
         }
         i += 1;

@@ -45,7 +45,7 @@ pub fn figures_at(lows: &[u64], highs: &[u64], v: u64, left: u64, total: u64) ->
     }
     Figures {
         deviation: Deviation(deviation),
-        spread: Spread(count * squares - total * total),
+        spread: Spread::from_squares(count, squares, total),
     }
 }
 

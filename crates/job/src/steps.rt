@@ -16,6 +16,7 @@ use crate::lines::Head;
 use crate::lines::UnitRead;
 use crate::lines::group_line;
 use crate::lines::unit_line;
+use model::Checked;
 use model::Limit;
 use model::Refusal;
 use model::Share;
@@ -50,12 +51,12 @@ const MOST_SPREAD: u64 = 100_000_000_000_000_000;
 fn unit_verdict(progress: Progress, low: u64, high: u64) -> u64
     ensures { λ r. ⌜ r ≡ unitVerdict (progress .units) (progress .groups) (record { low = low; high = high }) ⌝ }
 {
-    if Share::GREATEST < low {
+    let Checked::Valid(_) = Share::new(low) else {
         return 4;
-    }
-    if Share::GREATEST < high {
+    };
+    let Checked::Valid(_) = Share::new(high) else {
         return 4;
-    }
+    };
     if progress.groups != 0 {
         return 5;
     }

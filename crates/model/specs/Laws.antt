@@ -1,5 +1,6 @@
 -- The laws of one group, a file for each topic.
 pub mod Tests
+pub mod Shares
 pub mod Lists
 pub mod Walk
 pub mod Even

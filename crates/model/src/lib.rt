@@ -1,5 +1,6 @@
 // The planner's types, and what a limit allows.
 ghost use mathlib.Core.Path.{_≡_};
+ghost use Prim.Native.Nat.{_-_, _*_, _≤_};
 ghost use Rattle.model.specs.Figures.{allows, met};
 ghost use Rattle.model.specs.Shares.{checked};
 
@@ -41,21 +42,21 @@ pub struct Deviation(pub u64);
 // n times the squared deviation of document 002: n × (sum of squares) − S × S.
 pub struct Spread(pub u64);
 
+impl Spread {
+    // The spread of so many shares, from the sum of their squares and their total.
+    pub fn from_squares(count: u64, squares: u64, total: u64) -> Spread
+        requires { ⌜ total * total ≤ count * squares ⌝ }
+        requires { ⌜ count * squares ≤ 18_446_744_073_709_551_615 ⌝ }
+        ensures { λ r. ⌜ r .0 ≡ count * squares - total * total ⌝ }
+    {
+        Spread(count * squares - total * total)
+    }
+}
+
 // A limit is a number or the word any.
 pub enum Limit {
     Any,
     AtMost(u64),
-}
-
-impl Limit {
-    pub fn allows(self, figure: u64) -> bool
-        ensures { λ r. ⌜ r ≡ allows self figure ⌝ }
-    {
-        match self {
-            Limit::Any => true,
-            Limit::AtMost(most) => figure <= most,
-        }
-    }
 }
 
 // A group's limits.
@@ -65,15 +66,35 @@ pub struct Limits {
 }
 
 impl Limits {
+    // Whether the deviation limit allows a deviation.
+    fn allows_deviation(self, deviation: Deviation) -> bool
+        ensures { λ r. ⌜ r ≡ allows (self .deviation) (deviation .0) ⌝ }
+    {
+        let limit = self.deviation;
+        match limit {
+            Limit::Any => true,
+            Limit::AtMost(most) => deviation.0 <= most,
+        }
+    }
+
+    // Whether the spread limit allows a spread.
+    fn allows_spread(self, spread: Spread) -> bool
+        ensures { λ r. ⌜ r ≡ allows (self .spread) (spread .0) ⌝ }
+    {
+        let limit = self.spread;
+        match limit {
+            Limit::Any => true,
+            Limit::AtMost(most) => spread.0 <= most,
+        }
+    }
+
     pub fn met(self, deviation: Deviation, spread: Spread) -> bool
         ensures { λ r. ⌜ r ≡ met self (deviation .0) (spread .0) ⌝ }
     {
-        let first = self.deviation;
-        let second = self.spread;
-        if !first.allows(deviation.0) {
+        if !self.allows_deviation(deviation) {
             return false;
         }
-        second.allows(spread.0)
+        self.allows_spread(spread)
     }
 }
 

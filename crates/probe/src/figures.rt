@@ -3,6 +3,7 @@ use crate::pins::Reach;
 use crate::rows::Row;
 use crate::table::from_mean;
 use crate::table::square;
+use model::Deviation;
 ghost use mathlib.Core.Path.{_≡_};
 ghost use Prim.Native.Nat.{suc, _+_, _*_, _≤_};
 ghost use Rattle.probe.specs.Tables.{fromMean, square};
@@ -26,18 +27,25 @@ fn moved_parts(
 }
 
 // The deviation of the pinned group's shares.
-pub fn pinned_deviation(count: u64, total: u64, row: Row, own: u64, v: u64, reach: Reach) -> u64
+pub fn pinned_deviation(
+    count: u64,
+    total: u64,
+    row: Row,
+    own: u64,
+    v: u64,
+    reach: Reach,
+) -> Deviation
     requires { ⌜ count ≤ 256 ⌝ }
     requires { ⌜ total ≤ 256_000_000 ⌝ }
     requires { ⌜ Summable (fromMean count total) (row .deviation) (row .mark) own v reach ⌝ }
-    ensures { λ r. ⌜ Moves (fromMean count total) (row .deviation) (row .mark) own v reach r ⌝ }
+    ensures { λ r. ⌜ Moves (fromMean count total) (row .deviation) (row .mark) own v reach (r .0) ⌝ }
 {
     let value = from_mean(count, total, v);
     let before = from_mean(count, total, own);
     let from = from_mean(count, total, row.mark);
     let to = from_mean(count, total, reach.level);
     let next = from_mean(count, total, reach.level + 1);
-    moved_parts(row.deviation, before, value, reach, from, to, next)
+    Deviation(moved_parts(row.deviation, before, value, reach, from, to, next))
 }
 
 // The sum of squares of the pinned group's shares.

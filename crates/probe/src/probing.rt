@@ -6,7 +6,6 @@ use crate::pins::last_within;
 use crate::pins::pinned_total;
 use crate::pins::reach_from;
 use crate::rows::read_row;
-use model::Deviation;
 use model::Limits;
 use model::Spread;
 ghost use mathlib.Core.Path.{_≡_};
@@ -45,10 +44,8 @@ fn met_at(
     let own = clamp(low, high, row.mark);
     let deviation = pinned_deviation(count, total, row, own, v, reach);
     let squares = pinned_squares(row, own, v, reach);
-    limits.met(
-        Deviation(deviation),
-        Spread(count * squares - total * total),
-    )
+    let spread = Spread::from_squares(count, squares, total);
+    limits.met(deviation, spread)
 }
 
 // Whether the group with member i pinned to v, which the others can make up for, has a plan, from the row below its level.

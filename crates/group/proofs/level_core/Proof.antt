@@ -9,9 +9,10 @@ use mathlib.Core.Path.{_≡_, refl}
 use Rattle.model.specs.Levels.{topped, levelled}
 use Rattle.model.specs.Plans.{hasShares}
 use Rattle.model.specs.Laws.Level.{level-share}
+use Rattle.model.specs.Laws.Shares.{share-valid}
 use Rattle.model.specs.declared.Checked.the-variants.{Valid}
 use Rattle.group.specs.Sound.{HasShares, has-shares, levelled-is, levelled-total, levelled-length}
-use Rattle.group.specs.Levelling.{levelledTo, valid-share, levelled-answer}
+use Rattle.group.specs.Levelling.{levelledTo, levelled-answer}
 use Rattle.group.proofs.level_core.Statement.{statement}
 use Rattle.group.proofs.level_core.Tie as tie
 
@@ -38,7 +39,7 @@ valid : (c : tie.After-new) → c .new .result ≡ Valid (record { copies = c .b
 valid c =
     let s = start (c .before .before) in
     let small = level-share (s .args .lows .now) (s .args .highs .now) (s .args .total) in
-    valid-share _ _ (rw (c .before .level-at .ensures) small) (c .new .ensures)
+    share-valid _ _ (rw (c .before .level-at .ensures) small) (c .new .ensures)
 
 level-at-requires : tie.Need-level-at-requires
 level-at-requires c κs = shared c

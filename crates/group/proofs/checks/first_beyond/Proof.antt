@@ -1,11 +1,10 @@
 -- The first from i on is the first of all, while none was found. Assumes nothing.
 use borrow.Author.Needs.{needs}
-use borrow.Author.Tests.{le-leb, lt-leb}
+use borrow.Author.Tests.{not-true, not-false}
 use native.Mathlib.Omega.{arith}
-use mathlib.Core.Path.{_≡_, refl}
+use mathlib.Core.Path.{refl}
 use Prim.Native.Nat.{_-_, _≤_}
-use lib.ListN.{length, getD}
-use mathlib.Core.Bool.{true}
+use lib.ListN.{length}
 use Rattle.group.specs.Checks.{areShares}
 use Rattle.group.specs.Passed.{NoneBefore, first-here, first-after, first-nowhere}
 use Rattle.group.proofs.checks.first_beyond.Statement.{statement}
@@ -21,37 +20,31 @@ abbrev μ-loop : tie.MeasureT-loop
 loop-holds : tie.Need-loop-holds Inv-loop μ-loop
 loop-holds c = (search needs, refl)
 
-mul-if1 : tie.Need-mul-if1 Inv-loop μ-loop
-mul-if1 c = search needs
+mul-are-shares : tie.Need-mul-are-shares Inv-loop μ-loop
+mul-are-shares c = search needs
 
-shared-slice-read-if1 : tie.Need-shared-slice-read-if1 Inv-loop μ-loop
-shared-slice-read-if1 c = search needs
+shared-slice-read-are-shares : tie.Need-shared-slice-read-are-shares Inv-loop μ-loop
+shared-slice-read-are-shares c = search needs
+
+mul-are-shares-2 : tie.Need-mul-are-shares-2 Inv-loop μ-loop
+mul-are-shares-2 c = search needs
+
+shared-slice-read-are-shares-2 : tie.Need-shared-slice-read-are-shares-2 Inv-loop μ-loop
+shared-slice-read-are-shares-2 c = search needs
+
+are-shares-requires : tie.Need-are-shares-requires Inv-loop μ-loop
+are-shares-requires c κs = search needs
 
 add-result : tie.Need-add-result Inv-loop μ-loop
 add-result c = search needs
 
 returns : tie.Need-returns Inv-loop μ-loop
 returns c =
-    let s = c .before .before .before .before in
-    let turn = c .before .before .before in
+    let asked = c .before in
+    let turn = asked .before .before .before .before in
+    let s = turn .before .before .before in
     first-here areShares (s .args .lows .now) (s .args .highs .now) (turn .loop .i) (omega arith) (omega arith) (turn .loop .inv .1)
-    (rw (lt-leb _ _ (c .if1 .taken)))
-
-mul-if2 : tie.Need-mul-if2 Inv-loop μ-loop
-mul-if2 c = search needs
-
-shared-slice-read-if2 : tie.Need-shared-slice-read-if2 Inv-loop μ-loop
-shared-slice-read-if2 c = search needs
-
-add-result-2 : tie.Need-add-result-2 Inv-loop μ-loop
-add-result-2 c = search needs
-
-returns-2 : tie.Need-returns-2 Inv-loop μ-loop
-returns-2 c =
-    let s = c .before .before .before .before .before .before in
-    let turn = c .before .before .before .before .before in
-    first-here areShares (s .args .lows .now) (s .args .highs .now) (turn .loop .i) (omega arith) (omega arith) (turn .loop .inv .1)
-    (rw (le-leb _ _ (c .before .before .if1 .left), lt-leb _ _ (c .if2 .taken)))
+    (rw (← asked .are-shares .ensures) (not-true (asked .are-shares .result) (c .if1 .taken)))
 
 add-i : tie.Need-add-i Inv-loop μ-loop
 add-i c = search needs
@@ -61,17 +54,16 @@ loop-less c = search needs
 
 loop-again : tie.Need-loop-again Inv-loop μ-loop
 loop-again c =
-    let s = c .before .before .before .before .before .before in
-    let turn = c .before .before .before .before .before in
-    let passes : areShares (getD (s .args .lows .now) (turn .loop .i) 0) (getD (s .args .highs .now) (turn .loop .i) 0) ≡ true =
-    rw (le-leb _ _ (c .before .before .if1 .left), le-leb _ _ (c .if2 .left)) in (
+    let asked = c .before in
+    let turn = asked .before .before .before .before in
+    let s = turn .before .before .before in (
       search needs,
       first-after areShares (s .args .lows .now) (s .args .highs .now) (turn .loop .i) (omega arith) (omega arith) (turn .loop .inv .1)
-          passes,
+          (rw (← asked .are-shares .ensures) (not-false (asked .are-shares .result) (c .if1 .left))),
     )
 
-returns-3 : tie.Need-returns-3 Inv-loop μ-loop
-returns-3 c = first-nowhere areShares _ _ _ (c .loop-test .left) (c .before .loop .inv .1)
+returns-2 : tie.Need-returns-2 Inv-loop μ-loop
+returns-2 c = first-nowhere areShares _ _ _ (c .loop-test .left) (c .before .loop .inv .1)
 
 pub first-beyond-spec : {M : Type 1} → statement M
 first-beyond-spec =
@@ -80,15 +72,14 @@ first-beyond-spec =
     Inv-loop
     μ-loop
     loop-holds
-    mul-if1
-    shared-slice-read-if1
+    mul-are-shares
+    shared-slice-read-are-shares
+    mul-are-shares-2
+    shared-slice-read-are-shares-2
+    are-shares-requires
     add-result
     returns
-    mul-if2
-    shared-slice-read-if2
-    add-result-2
-    returns-2
     add-i
     loop-less
     loop-again
-    returns-3)
+    returns-2)

@@ -13,7 +13,7 @@ use Rattle.model.specs.Figures.{apart, deviation, spread}
 use Rattle.model.specs.Levels.{topped}
 use Rattle.model.specs.Laws.Walk.{Passed, passed-step, passed-all}
 use Rattle.model.specs.Laws.Lists.{ranges-at, within-length}
-use Rattle.group.specs.Sound.{greatestCount, greatestTotal}
+use Rattle.group.specs.Sound.{greatestTotal}
 use Rattle.group.specs.Bounds.{share-at-small, sum-small, squares-small, deviation-small}
 use Rattle.group.proofs.plans.figures_at.Statement.{statement}
 use Rattle.group.proofs.plans.figures_at.Tie as tie
@@ -161,22 +161,15 @@ module _ (c : tie.After-loop Inv-loop μ-loop) where
   squared : c .before .loop .squares ≡ sumOf (λ x. x * x) (shares begun)
   squared = all _ _ (c .before .loop .inv .2)
 
-mul-t25 : tie.Need-mul-t25 Inv-loop μ-loop
-mul-t25 c =
-    let small : c .before .loop .squares ≤ greatestCount * (greatestShare * greatestShare) =
-    rw (squared c) (squares-small (begun c .pre .0) (within (begun c))) in
-    omega (arith, mul-le-mul (begun c .pre .0 .few) small)
-
-mul-t26 : tie.Need-mul-t26 Inv-loop μ-loop
-mul-t26 c = omega (arith, mul-le-mul (total-bound (begun c)) (total-bound (begun c)))
-
-sub-t27 : tie.Need-sub-t27 Inv-loop μ-loop
-sub-t27 c =
-    rw (squared c) (rw (begun c .pre .1, ← within-length (within (begun c)) .0) at (cauchy-schwarz (shares (begun c))))
+from-squares-requires : tie.Need-from-squares-requires Inv-loop μ-loop
+from-squares-requires c κs =
+    let s = begun c in
+    let enough = rw (s .pre .1, ← within-length (within s) .0) at (cauchy-schwarz (shares s)) in
+    rw (squared c) (enough, omega (arith, mul-le-mul (s .pre .0 .few) (squares-small (s .pre .0) (within s))))
 
 returns : tie.Need-returns Inv-loop μ-loop
 unfolding deviation spread
-returns c = rw (← squared c, ← all c _ _ (c .before .loop .inv .1))
+returns c = rw (← squared (c .before), ← all (c .before) _ _ (c .before .before .loop .inv .1), ← c .from-squares .ensures)
 
 pub figures-at-spec : {M : Type 1} → statement M
 figures-at-spec =
@@ -205,7 +198,5 @@ figures-at-spec =
     add-i
     loop-less
     loop-again
-    mul-t25
-    mul-t26
-    sub-t27
+    from-squares-requires
     returns)

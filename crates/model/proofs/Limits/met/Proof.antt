@@ -4,17 +4,19 @@ use borrow.Author.Tests.{not-true, not-false}
 use Rattle.model.proofs.Limits.met.Statement.{statement}
 use Rattle.model.proofs.Limits.met.Tie as tie
 
-allows-requires : tie.Need-allows-requires
-allows-requires c κs = search needs
+allows-deviation-requires : tie.Need-allows-deviation-requires
+allows-deviation-requires c κs = search needs
 
 returns : tie.Need-returns
-returns c = rw (← c .before .allows .ensures, not-true (c .before .allows .result) (c .if1 .taken))
+returns c = rw (← c .before .allows-deviation .ensures, not-true (c .before .allows-deviation .result) (c .if1 .taken))
 
-allows-requires-2 : tie.Need-allows-requires-2
-allows-requires-2 c κs = search needs
+allows-spread-requires : tie.Need-allows-spread-requires
+allows-spread-requires c κs = search needs
 
 returns-2 : tie.Need-returns-2
-returns-2 c = rw (← c .before .before .allows .ensures, not-false (c .before .before .allows .result) (c .before .if1 .left)) (c .allows2 .ensures)
+returns-2 c =
+    rw (← c .before .before .allows-deviation .ensures, not-false (c .before .before .allows-deviation .result) (c .before .if1 .left))
+    (c .allows-spread .ensures)
 
 pub met-spec : {M : Type 1} → statement M
-met-spec = tie.close (tie.spec allows-requires returns allows-requires-2 returns-2)
+met-spec = tie.close (tie.spec allows-deviation-requires returns allows-spread-requires returns-2)

@@ -1,6 +1,5 @@
 -- The level that the copies left over reach gives the figures of the pinned group's levelled shares. Assumes nothing.
 use borrow.Author.Needs.{needs}
-use native.Mathlib.Nat.{mul-le-mul}
 use native.Mathlib.Omega.{arith}
 use mathlib.Core.List.{List}
 use mathlib.Core.Path.{_≡_, _∙_}
@@ -120,7 +119,7 @@ module _ (c : tie.After-pinned-squares) where
   begun = from-reach at
 
   module _ {lows′ highs′ : List ℕ} (pin : Pin (lows begun) (highs begun) (begun .args .low) (begun .args .high) (begun .args .v) lows′ highs′) where
-    is-deviation : c .before .pinned-deviation .result
+    is-deviation : c .before .pinned-deviation .result .0
         ≡ sumOf (fromMean (length (lows begun)) (begun .args .total)) (topped lows′ highs′ (reach at .level) (reach at .over))
     is-deviation = moves-sum pin (there at pin) _ (sums begun .deviations)
         (rw (c .before .before .clamp .ensures, c .before .before .before .before .before .read-row .ensures) at (c .before .pinned-deviation .ensures))
@@ -129,18 +128,11 @@ module _ (c : tie.After-pinned-squares) where
     is-squares = moves-sum pin (there at pin) square (sums begun .squares)
         (rw (c .before .before .clamp .ensures, c .before .before .before .before .before .read-row .ensures) at (c .pinned-squares .ensures))
 
-mul-t18 : tie.Need-mul-t18
-mul-t18 c =
+from-squares-requires : tie.Need-from-squares-requires
+from-squares-requires c κs =
     let pin = asked (begun c) .pin in
-    omega (arith, squares-small (sound (begun c)) pin (there (at c) pin) (is-deviation c pin) (is-squares c pin))
-
-mul-t20 : tie.Need-mul-t20
-mul-t20 c = omega (arith, mul-le-mul (sound (from-reach (c .before .before .before)) .small) (sound (from-reach (c .before .before .before)) .small))
-
-sub-t21 : tie.Need-sub-t21
-sub-t21 c =
-    let pin = asked (begun c) .pin in
-    squares-enough (sound (begun c)) pin (there (at c) pin) (is-deviation c pin) (is-squares c pin)
+    let small = squares-small (sound (begun c)) pin (there (at c) pin) (is-deviation c pin) (is-squares c pin) in
+    (squares-enough (sound (begun c)) pin (there (at c) pin) (is-deviation c pin) (is-squares c pin), omega (arith, small))
 
 met-requires : tie.Need-met-requires
 met-requires c κs = search needs
@@ -148,8 +140,9 @@ met-requires c κs = search needs
 returns : tie.Need-returns
 returns c = record {
   is = λ pin.
-      let b = c .before in
-      c .met .ensures ∙ meets-reached (sound (begun b)) pin (there (at b) pin) (is-deviation b pin) (is-squares b pin) (begun b .args .limits);
+      let b = c .before .before in
+      let meets = meets-reached (sound (begun b)) pin (there (at b) pin) (is-deviation b pin) (is-squares b pin) (begun b .args .limits) in
+      rw (c .before .from-squares .ensures) at (c .met .ensures) ∙ meets;
 }
 
 pub met-at-spec : {M : Type 1} → statement M
@@ -163,8 +156,6 @@ met-at-spec =
     clamp-requires
     pinned-deviation-requires
     pinned-squares-requires
-    mul-t18
-    mul-t20
-    sub-t21
+    from-squares-requires
     met-requires
     returns)
