@@ -8,4 +8,5 @@ pub mod Evenness
 pub mod Settled
 pub mod Texts
 pub mod Promises
+pub mod Places
 pub mod Known
