@@ -138,7 +138,7 @@ danivomel_settled danivomel_settle(
     danivomel_range *table, size_t table_count,
     uint64_t *scratch, size_t scratch_count);
 
-/* What reporting answers: the report's length, or a refusal, with the passes for 11 and 12. */
+/* What reporting answers: the report's length and the passes, or a refusal, with the passes for 11 and 12. */
 typedef struct {
     danivomel_refusal refusal;
     uint64_t passes;

@@ -65,9 +65,9 @@ foreignSettled (Settling.NoPlan number place passes) =
     record { refusal = record { number = number; place = place }; passes = passes }
 foreignSettled (Settling.Refused refusal) = record { refusal = foreignRefusal refusal; passes = 0 }
 
--- a report's answer
+-- a report's answer; the passes are 0 where it is refused ahead of the first
 abbrev pub foreignReport : Reporting → ForeignReport
-foreignReport (Reporting.Written length) = record { refusal = accepted; passes = 0; length = length }
+foreignReport (Reporting.Written length passes) = record { refusal = accepted; passes = passes; length = length }
 foreignReport (Reporting.NoPlan number place passes) =
     record { refusal = record { number = number; place = place }; passes = passes; length = 0 }
 foreignReport (Reporting.Refused refusal) = record { refusal = foreignRefusal refusal; passes = 0; length = 0 }

@@ -96,12 +96,12 @@ fn reporting_out(answer: Reporting) -> ForeignReport
     ensures { λ r. ⌜ r ≡ foreignReport answer ⌝ }
 {
     match answer {
-        Reporting::Written(length) => ForeignReport {
+        Reporting::Written { length, passes } => ForeignReport {
             refusal: ForeignRefusal {
                 number: 0,
                 place: 0,
             },
-            passes: 0,
+            passes,
             length,
         },
         Reporting::NoPlan {

@@ -29,7 +29,7 @@ reported answer lows highs buffer = record { answer = answer; lows = lows; highs
 abbrev pub reportBy : List Group → ℕ → Settling → List ℕ → List ℕ → List ℕ → Reported
 reportBy groups units (settling.Settled passes) lows highs buffer =
     let report : List ℕ = reportOf groups (tableOf (take units lows) (take units highs)) passes in
-    reported (Written (length report)) lows highs (report ++ drop (length report) buffer)
+    reported (Written (length report) passes) lows highs (report ++ drop (length report) buffer)
 reportBy groups units (settling.NoPlan number place passes) lows highs buffer = reported (NoPlan number place passes) lows highs buffer
 reportBy groups units (settling.Refused refusal) lows highs buffer = reported (Refused refusal) lows highs buffer
 

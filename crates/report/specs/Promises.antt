@@ -30,21 +30,21 @@ says is = ap (λ (r : Reported). r .answer) is
 
 module _ (groups : List Group) (units : ℕ) (lows highs buffer : List ℕ) where
   -- a written report lies in the buffer
-  written-in : (answer : Settling) (exit : Reported) {count : ℕ} → exit .answer ≡ Written count
+  written-in : (answer : Settling) (exit : Reported) {count passes : ℕ} → exit .answer ≡ Written count passes
       → exit ≡ reportBy groups units answer lows highs buffer → count ≤ length (exit .buffer)
-  written-in (works.Settled passes) exit {count} answers is =
-      let report : List ℕ = reportOf groups (tableOf (take units lows) (take units highs)) passes in
-      let same : Written count ≡ Written (length report) = sym answers ∙ says is in
+  written-in (works.Settled more) exit {count} {passes} answers is =
+      let report : List ℕ = reportOf groups (tableOf (take units lows) (take units highs)) more in
+      let same : Written count passes ≡ Written (length report) more = sym answers ∙ says is in
       let counted : count ≡ length report = cc in
       rw (is, counted) (omega (arith, length-append report (drop (length report) buffer)))
   written-in (works.NoPlan number place passes) exit answers is =
       absurd (let e = says is in let z : _≡_ {A = ℕ} 0 1 = cc in omega arith)
   written-in (works.Refused refusal) exit answers is = absurd (let e = says is in let z : _≡_ {A = ℕ} 0 1 = cc in omega arith)
 
-  -- only a settling is reported
-  written-by : (answer : Settling) {count : ℕ} → reportBy groups units answer lows highs buffer .answer ≡ Written count
-      → (passes : ℕ) × (answer ≡ works.Settled passes)
-  written-by (works.Settled passes) answers = (passes, refl)
+  -- only a settling is reported, with its passes
+  written-by : (answer : Settling) {count passes : ℕ} → reportBy groups units answer lows highs buffer .answer ≡ Written count passes
+      → answer ≡ works.Settled passes
+  written-by (works.Settled more) {count} {passes} answers = let counted : more ≡ passes = cc in rw counted
   written-by (works.NoPlan number place passes) answers = absurd (let z : _≡_ {A = ℕ} 0 1 = cc in omega arith)
   written-by (works.Refused refusal) answers = absurd (let z : _≡_ {A = ℕ} 0 1 = cc in omega arith)
 
@@ -67,18 +67,18 @@ module _ (groups : List Group) (units : ℕ) (lows highs buffer : List ℕ) wher
   table-by (works.Refused refusal) = (refl, refl)
 
 -- the length that a report answers lies within the buffer
-pub written-within : (text lows highs : List ℕ) (scratch : ℕ) (buffer : List ℕ) {count : ℕ} {nextLows nextHighs exit : List ℕ}
-    → reported (Written count) nextLows nextHighs exit ≡ reportText text lows highs scratch buffer → count ≤ length exit
+pub written-within : (text lows highs : List ℕ) (scratch : ℕ) (buffer : List ℕ) {count passes : ℕ} {nextLows nextHighs exit : List ℕ}
+    → reported (Written count passes) nextLows nextHighs exit ≡ reportText text lows highs scratch buffer → count ≤ length exit
 unfolding reportText reportSettled
-written-within text lows highs scratch buffer {count} {nextLows} {nextHighs} {exit} is = by-length (leb mostBytes (length buffer)) is
+written-within text lows highs scratch buffer {count} {passes} {nextLows} {nextHighs} {exit} is = by-length (leb mostBytes (length buffer)) is
   where
     by-length : (long : Bool)
-        → reported (Written count) nextLows nextHighs exit
+        → reported (Written count passes) nextLows nextHighs exit
         ≡ pick long
         (reportSettled (jobOf (readJob text) .groups) (length (jobOf (readJob text) .lows)) (settleText text lows highs scratch) buffer)
         (reported (Refused (refusal 1 0)) lows highs buffer)
         → count ≤ length exit
-    by-length true is = written-in _ _ _ _ buffer (settleText text lows highs scratch .answer) (reported (Written count) nextLows nextHighs exit) refl is
+    by-length true is = written-in _ _ _ _ buffer (settleText text lows highs scratch .answer) (reported (Written count passes) nextLows nextHighs exit) refl is
     by-length false is = absurd (let e = says is in let z : _≡_ {A = ℕ} 0 1 = cc in omega arith)
 
 -- 01, demand 3: the table lies inside the opening one, is at rest, every table at rest inside the opening one lies inside it, units in
@@ -112,21 +112,21 @@ module _ {text lows highs : List ℕ} {scratch : ℕ} (cleared : Cleared text lo
   left-is : left ≡ after cleared
   left-is = rw (same-table .0, same-table .1)
 
-  module _ {count : ℕ} (answers : outcome .answer ≡ Written count) where
-    -- the settling took so many passes
-    pub written-settled : (passes : ℕ) × (called cleared .answer ≡ works.Settled passes)
+  module _ {size passes : ℕ} (answers : outcome .answer ≡ Written size passes) where
+    -- the passes that it answers are the settling's
+    pub written-settled : called cleared .answer ≡ works.Settled passes
     written-settled = written-by _ _ _ _ buffer (called cleared .answer) (rw reports at answers)
 
     -- the buffer holds the report of the table that the call leaves and of the passes, then what it held
     pub written-report : outcome .buffer
-        ≡ reportOf (groups cleared) left (written-settled .0)
-        ++ drop (length (reportOf (groups cleared) left (written-settled .0))) buffer
-    written-report = rw (left-is, reports, written-settled .1)
+        ≡ reportOf (groups cleared) left passes
+        ++ drop (length (reportOf (groups cleared) left passes)) buffer
+    written-report = rw (left-is, reports, written-settled)
 
     -- 01, demand 3, for the report's table and shares
     pub written-promised : Promised (groups cleared) (opening cleared) left
     written-promised =
-        let settles = written-settled .1 in
+        let settles = written-settled in
         rw left-is
         (record {
           inside = called-inside cleared settles;
@@ -138,7 +138,7 @@ module _ {text lows highs : List ℕ} {scratch : ℕ} (cleared : Cleared text lo
 
     -- settling the table that it leaves takes one pass and changes nothing
     pub written-again : settleText text (outcome .lows) (outcome .highs) scratch ≡ settlement (works.Settled 1) (outcome .lows) (outcome .highs)
-    written-again = rw (same-table .0, same-table .1) (called-again cleared (written-settled .1))
+    written-again = rw (same-table .0, same-table .1) (called-again cleared written-settled)
 
   -- refused for want of a plan exactly if no table inside the opening one is at rest
   pub report-refused : ((number : ℕ) × (place : ℕ) × (passes : ℕ) × (outcome .answer ≡ NoPlan number place passes)) ↔ NoneInside (groups cleared) (opening cleared)

@@ -29,7 +29,7 @@ module _ (groups : List Group) (units : ℕ) {settled : Settlement} {lows highs 
   pub settled-written : {passes count : ℕ} {exit : List ℕ} → settlement (works.Settled passes) lows highs ≡ settled
       → count ≡ length (reportOf groups (tableOf (take units lows) (take units highs)) passes)
       → exit ≡ reportOf groups (tableOf (take units lows) (take units highs)) passes ++ drop count buffer
-      → reported (Written count) lows highs exit ≡ reportSettled groups units settled buffer
+      → reported (Written count passes) lows highs exit ≡ reportSettled groups units settled buffer
   unfolding reportSettled
   settled-written is counted holds = rw (← is, holds, counted)
 

@@ -89,7 +89,7 @@ fn report_job(
                 member_highs,
                 plan,
             );
-            Reporting::Written(length)
+            Reporting::Written { length, passes }
         }
         Settling::NoPlan {
             number,
@@ -144,7 +144,7 @@ fn report_by(
     }
 }
 
-// Settles a job text over a table and writes the report at the start of the buffer: answers its length, or a refusal.
+// Settles a job text over a table and writes the report at the start of the buffer: answers its length and the passes, or a refusal.
 pub fn report(
     text: &[u8],
     lows: &mut [u64],

@@ -5,10 +5,13 @@ pub mod calls;
 pub mod groups;
 pub mod lines;
 
-// What reporting answers: the length of the report written; or no plan, with the refusal's number (11 or 12), its place
+// What reporting answers: the length of the report written, and the passes; or no plan, with the refusal's number (11 or 12), its place
 // (the group) and the passes; or refused before any pass.
 pub enum Reporting {
-    Written(usize),
+    Written {
+        length: usize,
+        passes: u64,
+    },
     NoPlan {
         number: u64,
         place: u64,

@@ -31,8 +31,8 @@ fn write_report(
     buffer: &mut [u8],
 ) {
     match report(text, lows, highs, scratch, buffer) {
-        Reporting::Written(count) => {
-            io::write_all(STDOUT_FILENO, &buffer[..count]);
+        Reporting::Written { length, .. } => {
+            io::write_all(STDOUT_FILENO, &buffer[..length]);
         }
         Reporting::NoPlan { number, place, .. } => refuse(number, place),
         Reporting::Refused(refusal) => refuse(refusal.number, refusal.place),

@@ -19,14 +19,14 @@ answered is e = rw (← is) e
 report-requires : tie.Need-report-requires
 report-requires c κs = search needs
 
-enum-known-count : tie.Need-enum-known-count
-enum-known-count c = search needs
+enum-known-length : tie.Need-enum-known-length
+enum-known-length c = search needs
 
 slice-reshare-prefix-write-all : tie.Need-slice-reshare-prefix-write-all
 slice-reshare-prefix-write-all c =
     let args = c .before .before .before .before .before .before .before .before .before .before .before .before .before .before .before .before .before .before .before .before .before .args in
     written-within (args .text .now) (args .lows .now) (args .highs .now) (length (args .scratch .now)) (args .buffer .now)
-    (answered (c .before .count .given .1) (c .before .before .before .before .before .before .before .before .before .before .before .report .ensures))
+    (answered (c .before .length .given .1) (c .before .before .before .before .before .before .before .before .before .before .before .report .ensures))
 
 slice-aggregate-write-all : tie.Need-slice-aggregate-write-all
 slice-aggregate-write-all c = sym (length-take-le _ _ (slice-reshare-prefix-write-all (c .before)))
@@ -96,7 +96,7 @@ write-report-spec =
     tie.close
     (tie.spec
     report-requires
-    enum-known-count
+    enum-known-length
     slice-reshare-prefix-write-all
     slice-aggregate-write-all
     write-all-requires
