@@ -9,4 +9,5 @@ pub mod Settled
 pub mod Texts
 pub mod Promises
 pub mod Places
+pub mod Orders
 pub mod Known
