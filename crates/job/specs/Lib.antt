@@ -12,4 +12,9 @@ pub mod Taking
 pub mod Reading
 pub mod Scanning
 pub mod Sound
+pub mod TextLines
+pub mod Accepting
+pub mod SameJob
+pub mod Orders
+pub mod Whole
 pub mod Worked

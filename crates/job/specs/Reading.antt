@@ -56,7 +56,8 @@ pub record Scanned (text lows₀ highs₀ flat₀ lows highs flat : List ℕ) (r
   pub pairs : (job : Job) → readJob text ≡ accepted job → length (job .highs) ≡ length (job .lows)
   pub found-flat : (job : Job) → readJob text ≡ accepted job → flat ≡ flatten (job .groups) ++ drop (length (flatten (job .groups))) flat₀
 
-line-long : (l : Line) → 0 < length (printLine l)
+-- a line has at least one byte
+pub line-long : (l : Line) → 0 < length (printLine l)
 unfolding printLine
 line-long (unit u) = omega arith
 line-long (group g) = omega arith

@@ -4,7 +4,7 @@ use mathlib.Core.Bool.{Bool, true, false}
 use mathlib.Core.List.{List}
 use mathlib.Core.Path.{_≡_, refl}
 use native.Mathlib.Omega.{arith}
-use borrow.Author.Tests.{le-leb, leb-true, ltb-true, eqb-true}
+use borrow.Author.Tests.{le-leb, lt-ltb, leb-true, ltb-true, eqb-true}
 use lib.Dec.{leb, ltb, eqb}
 use Rattle.model.specs.Shares.{greatestShare}
 use Rattle.model.specs.declared.Limit.{Limit}
@@ -59,6 +59,19 @@ head-good groups taken total limits count h =
     let d = unless-zero (ltb groups mostGroups) 5 _ (c .1) in
     let e = unless-zero (leb (taken + count) mostMemberships) 5 _ (d .1) in
     record { total-fits = leb-true _ _ (a .0); deviation-fits = b .0; spread-fits = c .0; room = ltb-true _ _ (d .0); fits = leb-true _ _ (e .0) }
+
+-- and a head that satisfies it all has the verdict 0
+pub good-head : {groups taken total : ℕ} {limits : Limits} {count : ℕ} → HeadGood groups taken total limits count
+    → headVerdict groups taken total limits count ≡ 0
+unfolding headVerdict
+good-head {groups} {taken} {total} {limits} {count} h =
+    rw (
+      le-leb total greatestTotal (h .total-fits),
+      h .deviation-fits,
+      h .spread-fits,
+      lt-ltb groups mostGroups (h .room),
+      le-leb (taken + count) mostMemberships (h .fits),
+    )
 
 -- members without a refusal
 pub record MembersGood (units : ℕ) (ms : List ℕ) : Type 0 where

@@ -16,3 +16,4 @@ pub mod Accepted
 pub mod Refusals
 pub mod Called
 pub mod Repeated
+pub mod Orders

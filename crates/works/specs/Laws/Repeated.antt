@@ -1,4 +1,4 @@
--- Calls on a text repeated: over the settled table, and with the groups in another order. Assumes nothing.
+-- Calls on a text repeated: over the settled table, and on a text with the same groups. Assumes nothing.
 use Prim.Native.Nat.{ℕ}
 use mathlib.Core.List.{List, List·Memᴰ}
 use mathlib.Core.Logic.{_↔_}
@@ -53,9 +53,9 @@ module _ {text other lows highs : List ℕ} {scratch room : ℕ} (first : Cleare
   same-table : settledTable (settle (groups first) (opening first)) ≡ settledTable (settle (groups second) (opening second))
   same-table = any-order (opening-sound first) same-groups ∙ rw same-units
 
-  -- any two orders of the groups give the same settled table, or both are refused for want of a plan
-  pub called-any-order : (called first .lows ≡ called second .lows) × (called first .highs ≡ called second .highs) × (WithoutPlan first ↔ WithoutPlan second)
-  called-any-order = agree (ends first) (ends second)
+  -- both give the same settled table, or both are refused for want of a plan
+  pub called-same-groups : (called first .lows ≡ called second .lows) × (called first .highs ≡ called second .highs) × (WithoutPlan first ↔ WithoutPlan second)
+  called-same-groups = agree (ends first) (ends second)
     where
       agree : Ends first → Ends second
           → (called first .lows ≡ called second .lows) × (called first .highs ≡ called second .highs) × (WithoutPlan first ↔ WithoutPlan second)
