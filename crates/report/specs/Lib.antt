@@ -9,5 +9,6 @@ pub mod Settled
 pub mod Texts
 pub mod Promises
 pub mod Places
+pub mod Cut
 pub mod Orders
 pub mod Known

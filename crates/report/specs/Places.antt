@@ -1,7 +1,7 @@
 -- Where the lines of a report stand, and what of a group's line depends on the group's place. Assumes nothing.
 use Prim.Native.Nat.{ℕ, zero, suc, _+_}
 use mathlib.Core.List.{List, [], _∷_, _++_, map, flatten, append-assoc, append-nil}
-use mathlib.Core.Option.{Option, some}
+use mathlib.Core.Option.{some}
 use mathlib.Core.Path.{_≡_, refl, sym, ap, _∙_}
 use native.Mathlib.Nat.{zero-add, suc-add, add-zero, add-suc, suc-inj}
 use native.Mathlib.Omega.{arith}
@@ -13,23 +13,11 @@ use Rattle.text.specs.Words.{bytes}
 use Rattle.print.specs.Items.{item, items, form}
 use Rattle.works.specs.Tables.{Table, units}
 use Rattle.report.specs.Lines.{settledLine, groupLine}
-use Rattle.report.specs.Reports.{unitLines, levelledLine, lineOf, groupLines, reportOf}
+use Rattle.report.specs.Reports.{unitLines, levelledLine, lineOf, groupLines}
 
 -- the lines of a report: that of the passes, the unit lines, the group lines
-abbrev pub linesOf : List Group → Table → ℕ → List (List ℕ)
-linesOf groups table passes = settledLine passes ∷ (unitLines 1 (table .lows) (table .highs) ++ groupLines 1 table groups)
-
--- two lists of lines one after the other
-flatten-append : (xs ys : List (List ℕ)) → flatten (xs ++ ys) ≡ flatten xs ++ flatten ys
-unfolding flatten
-flatten-append [] ys = refl
-flatten-append (x ∷ xs) ys = rw (flatten-append xs ys) (sym (append-assoc x (flatten xs) (flatten ys)))
-
--- a report is its lines, one after the other
-pub report-lines : (groups : List Group) (table : Table) (passes : ℕ) → reportOf groups table passes ≡ flatten (linesOf groups table passes)
-unfolding reportOf flatten
-report-lines groups table passes =
-    rw (append-nil (flatten (groupLines 1 table groups)), flatten-append (unitLines 1 (table .lows) (table .highs)) (groupLines 1 table groups))
+abbrev pub reportLines : List Group → Table → ℕ → List (List ℕ)
+reportLines groups table passes = settledLine passes ∷ (unitLines 1 (table .lows) (table .highs) ++ groupLines 1 table groups)
 
 -- a group's line with this number and these bytes past it
 abbrev pub numbered : ℕ → List ℕ → List ℕ
@@ -77,7 +65,7 @@ unit-count number (l ∷ lows) (h ∷ highs) same = ap suc (unit-count (suc numb
 -- on a report the line of the group at index k, its number k + 1, stands behind the line of the passes, the unit lines and k group lines
 pub group-line : (groups : List Group) (table : Table) (passes : ℕ) {group : Group} (k : ℕ) → length (table .lows) ≡ length (table .highs)
     → getElem? groups k ≡ some group
-    → getElem? (linesOf groups table passes) (suc (units table + k)) ≡ some (lineOf (suc k) table group)
+    → getElem? (reportLines groups table passes) (suc (units table + k)) ≡ some (lineOf (suc k) table group)
 group-line groups table passes {group} k paired stands =
     let lines : List (List ℕ) = unitLines 1 (table .lows) (table .highs) in
     let place : length lines + k ≡ units table + k = omega (arith, unit-count 1 (table .lows) (table .highs) paired) in
