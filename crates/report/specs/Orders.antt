@@ -196,4 +196,6 @@ pub report-any-order : {text other lows highs : List ℕ} {scratch : ℕ} (clear
     (buffer space : List ℕ) (long : mostBytes ≤ length buffer) (wide : mostBytes ≤ length space)
     → SameReports cleared (reordered-cleared cleared reordered) buffer space long wide
 report-any-order cleared reordered buffer space long wide =
-    report-same-groups cleared (reordered-cleared cleared reordered) buffer space long wide (same-units cleared reordered) (same-groups cleared reordered)
+    report-same-groups cleared (reordered-cleared cleared reordered) buffer space long wide
+    (same-units cleared reordered)
+    (same-groups cleared reordered)
