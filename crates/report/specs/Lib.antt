@@ -8,4 +8,7 @@ pub mod Evenness
 pub mod Settled
 pub mod Texts
 pub mod Promises
+pub mod Places
+pub mod Cut
+pub mod Orders
 pub mod Known
