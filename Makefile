@@ -1,5 +1,5 @@
 # The planner's commands. See README.md.
-.PHONY: run test bench
+.PHONY: run test bench definitions
 
 JOB = examples/works.job
 
@@ -11,3 +11,6 @@ test:
 
 bench:
 	@bench/run
+
+definitions:
+	@tools/list-definitions
