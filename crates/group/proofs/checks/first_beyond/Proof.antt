@@ -7,7 +7,7 @@ use Prim.Native.Nat.{_-_, _≤_}
 use lib.ListN.{length, getD}
 use mathlib.Core.Bool.{true}
 use Rattle.group.specs.Checks.{areShares}
-use Rattle.group.specs.Passed.{NoneBefore, first-here, first-after, first-nowhere}
+use Rattle.group.specs.First.{NoneBefore, first-here, first-after, first-nowhere}
 use Rattle.group.proofs.checks.first_beyond.Statement.{statement}
 use Rattle.group.proofs.checks.first_beyond.Tie as tie
 
