@@ -8,4 +8,6 @@ pub mod Evenness
 pub mod Settled
 pub mod Texts
 pub mod Promises
+pub mod Program
+pub mod Printed
 pub mod Known
