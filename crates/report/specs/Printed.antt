@@ -7,17 +7,15 @@ use lib.ListN.{length, take, drop, length-append}
 use lib.Seq.{take-at}
 use Rattle.group.specs.declared.Check.the-variants.{Passed}
 use Rattle.job.specs.Job.{Job, Outcome, accepted, refused, mostBytes, mostUnits, readJob}
-use Rattle.job.specs.Reading.{readTable, readingOf, Filled, accepted-by, refused-by, table-fits, table-refused}
+use Rattle.job.specs.Reading.{readTable, Filled, accepted-by, refused-by, table-fits, table-refused}
 use Rattle.job.specs.Sound.{Sound, accepted-sound}
 use Rattle.job.specs.declared.Reading.{Reading}
 use Rattle.job.specs.declared.Reading.the-variants as reading
-use Rattle.model.specs.Groups.{Group}
 use Rattle.model.specs.Laws.Lists.{ranges-length}
 use Rattle.model.specs.declared.Refusal.{Refusal}
 use Rattle.works.specs.Calls.{Settlement, checkTable}
 use Rattle.works.specs.Laws.Called.{Cleared, Ends, groups, count, opening, called, after, says, ends}
 use Rattle.works.specs.Laws.Checked.{Roomy, ranges-pass}
-use Rattle.works.specs.Settling as works
 use Rattle.works.specs.Settling.{settle}
 use Rattle.works.specs.Tables.{Table, tableOf}
 use Rattle.works.specs.declared.Settling.{Settling}
@@ -29,7 +27,7 @@ use Rattle.report.specs.Reports.{reportOf, printed}
 use Rattle.report.specs.declared.Reporting.{Reporting}
 use Rattle.report.specs.declared.Reporting.the-variants.{Written, NoPlan, Refused}
 
--- a table of which each list has room for every job's units
+-- lists and a buffer with room for every job
 pub record Lent (lows highs scratch buffer : List ℕ) : Type 0 where
   pub forLows : mostUnits ≤ length lows
   pub forHighs : mostUnits ≤ length highs
@@ -41,10 +39,10 @@ pub record Opened (text lows highs : List ℕ) (scratch : ℕ) : Type 0 where
   pub cleared : Cleared text lows highs scratch
   pub opens : opening cleared ≡ tableOf (cleared .found .lows) (cleared .found .highs)
 
--- a line written at the start of a buffer is printed where it is what is to be printed
-pub line-printed : {bytes line entry buffer exit : List ℕ} {size : ℕ} → bytes ≡ line → buffer ≡ entry → size ≡ length line
+-- a refusal's line at the start of a buffer, where it is what is printed
+pub refusal-printed : {bytes line entry buffer exit : List ℕ} {size : ℕ} → bytes ≡ line → buffer ≡ entry → size ≡ length line
     → exit ≡ line ++ drop (length line) buffer → (size ≡ length bytes) × (exit ≡ bytes ++ drop size entry)
-line-printed is kept counted holds = rw (is, ← kept, counted, holds) (refl, refl)
+refusal-printed is kept counted holds = rw (is, ← kept, counted, holds) (refl, refl)
 
 -- a table with room for every job never refuses one
 table-holds : (text : List ℕ) (a b : ℕ) → mostUnits ≤ a → mostUnits ≤ b → readTable text a b ≡ readJob text
@@ -63,14 +61,16 @@ module _ {text lows₀ highs₀ lows highs : List ℕ} {answer : Reading} (fille
   holds = table-holds text (length lows₀) (length highs₀) forLows forHighs
 
   -- a refusal's line is printed
-  pub refused-prints : {refusal : Refusal} → answer ≡ reading.Refused refusal → printedOf text ≡ refusalLine (refusal .number) (refusal .place)
+  pub refused-prints : {refusal : Refusal} → answer ≡ reading.Refused refusal
+      → printedOf text ≡ refusalLine (refusal .number) (refusal .place)
   unfolding printedOf printedRead
   refused-prints {refusal} refuses =
       let found : readTable text (length lows₀) (length highs₀) ≡ refused refusal = refused-by _ refusal (sym refuses ∙ filled .answer) in
       ap printedRead (sym holds ∙ found)
 
   -- the table of a text that is read opens its settling
-  pub read-opens : {units listed : ℕ} → answer ≡ reading.Read units listed → (scratch : ℕ) → 8 * mostUnits ≤ scratch → Opened text lows highs scratch
+  pub read-opens : {units listed : ℕ} → answer ≡ reading.Read units listed → (scratch : ℕ) → 8 * mostUnits ≤ scratch
+      → Opened text lows highs scratch
   read-opens {units} {listed} reads scratch forScratch =
       let (found, accepts, counts, lists) = accepted-by _ units listed (sym reads ∙ filled .answer) in
       let job-is : readJob text ≡ accepted found = sym holds ∙ accepts in
@@ -93,7 +93,9 @@ module _ {text lows₀ highs₀ lows highs : List ℕ} {answer : Reading} (fille
         opens = λ i. tableOf (front-lows i) (front-highs i);
       }
 
-module _ {text lows highs : List ℕ} {scratch : ℕ} (opened : Opened text lows highs scratch) (buffer : List ℕ) (long : mostBytes ≤ length buffer) where
+-- reporting over such a table
+module _ {text lows highs : List ℕ} {scratch : ℕ} (opened : Opened text lows highs scratch) (buffer : List ℕ)
+    (long : mostBytes ≤ length buffer) where
   abbrev cleared : Cleared text lows highs scratch
   cleared = opened .cleared
 
@@ -104,38 +106,46 @@ module _ {text lows highs : List ℕ} {scratch : ℕ} (opened : Opened text lows
       ap printedRead (cleared .reads)
       ∙ ap (λ (table : Table). printed (groups cleared) (settle (groups cleared) table)) (sym (opened .opens))
 
-  -- how the report of the text ends: written, or for want of a plan
+  -- what reporting answers and leaves
+  abbrev outcome : Reported
+  outcome = reportText text lows highs scratch buffer
+
+  -- the outcome with these bytes written at the start of the buffer
+  abbrev writing : ℕ → List ℕ → List ℕ → List ℕ → Reported
+  writing passes nextLows nextHighs bytes =
+      reported (Written (length bytes) passes) nextLows nextHighs (bytes ++ drop (length bytes) buffer)
+
+  -- how it ends: with the report written, or for want of a plan
   data Prints : Type 0 where
-    written : (passes : ℕ) (nextLows nextHighs : List ℕ)
-        → reportText text lows highs scratch buffer
-        ≡ reported (Written (length (printedOf text)) passes) nextLows nextHighs (printedOf text ++ drop (length (printedOf text)) buffer) → Prints
+    written : (passes : ℕ) (nextLows nextHighs : List ℕ) → outcome ≡ writing passes nextLows nextHighs (printedOf text) → Prints
     none : (number place passes : ℕ) → printedOf text ≡ refusalLine number place
-        → reportText text lows highs scratch buffer ≡ reported (NoPlan number place passes) lows highs buffer → Prints
+        → outcome ≡ reported (NoPlan number place passes) lows highs buffer → Prints
 
   by-end : Ends cleared → Prints
   unfolding printed
   by-end (Ends.settled passes settles said) =
-      let report-is : printedOf text ≡ reportOf (groups cleared) (after cleared) passes = printed-opening ∙ ap (printed (groups cleared)) settles in
+      let report-is : printedOf text ≡ reportOf (groups cleared) (after cleared) passes =
+      printed-opening ∙ ap (printed (groups cleared)) settles in
       Prints.written passes (called cleared .lows) (called cleared .highs)
       (reports cleared buffer long
       ∙ ap (λ (answer : Settling). reportBy (groups cleared) (count cleared) answer (called cleared .lows) (called cleared .highs) buffer) (says said)
-      ∙ ap (λ (bytes : List ℕ). reported (Written (length bytes) passes) (called cleared .lows) (called cleared .highs) (bytes ++ drop (length bytes) buffer)) (sym report-is))
+      ∙ ap (writing passes (called cleared .lows) (called cleared .highs)) (sym report-is))
   by-end (Ends.refused number place passes settles said) =
       Prints.none number place passes
       (printed-opening ∙ ap (printed (groups cleared)) settles)
       (reports cleared buffer long
       ∙ ap (λ (s : Settlement). reportBy (groups cleared) (count cleared) (s .answer) (s .lows) (s .highs) buffer) said)
 
-  module _ {answer : Reporting} {nextLows nextHighs exit : List ℕ}
-      (is : reported answer nextLows nextHighs exit ≡ reportText text lows highs scratch buffer) where
-    answers : {other : Reported} → reportText text lows highs scratch buffer ≡ other → answer ≡ other .answer
+  module _ {answer : Reporting} {nextLows nextHighs exit : List ℕ} (is : reported answer nextLows nextHighs exit ≡ outcome) where
+    answers : {other : Reported} → outcome ≡ other → answer ≡ other .answer
     answers e = ap (λ (r : Reported). r .answer) (is ∙ e)
 
-    leaves : {other : Reported} → reportText text lows highs scratch buffer ≡ other → exit ≡ other .buffer
+    leaves : {other : Reported} → outcome ≡ other → exit ≡ other .buffer
     leaves e = ap (λ (r : Reported). r .buffer) (is ∙ e)
 
     -- a report that is written is what the program prints
-    pub written-prints : {size passes : ℕ} → answer ≡ Written size passes → (size ≡ length (printedOf text)) × (exit ≡ printedOf text ++ drop size buffer)
+    pub written-prints : {size passes : ℕ} → answer ≡ Written size passes
+        → (size ≡ length (printedOf text)) × (exit ≡ printedOf text ++ drop size buffer)
     written-prints {size} {passes} writes = by (by-end (ends cleared))
       where
         by : Prints → (size ≡ length (printedOf text)) × (exit ≡ printedOf text ++ drop size buffer)
@@ -145,8 +155,9 @@ module _ {text lows highs : List ℕ} {scratch : ℕ} (opened : Opened text lows
             (counted, leaves e ∙ ap (λ (k : ℕ). printedOf text ++ drop k buffer) (sym counted))
         by (Prints.none number place more line e) = absurd (let z : _≡_ {A = ℕ} 0 1 = cc (writes, answers e) in omega arith)
 
-    -- without a plan the refusal's line is
-    pub none-prints : {number place passes : ℕ} → answer ≡ NoPlan number place passes → (printedOf text ≡ refusalLine number place) × (exit ≡ buffer)
+    -- without a plan the refusal's line is, and the buffer holds what it held
+    pub none-prints : {number place passes : ℕ} → answer ≡ NoPlan number place passes
+        → (printedOf text ≡ refusalLine number place) × (exit ≡ buffer)
     none-prints {number} {place} {passes} refuses = by (by-end (ends cleared))
       where
         by : Prints → (printedOf text ≡ refusalLine number place) × (exit ≡ buffer)
@@ -157,7 +168,7 @@ module _ {text lows highs : List ℕ} {scratch : ℕ} (opened : Opened text lows
             let q : there ≡ place = cc in
             (line ∙ rw (p, q), leaves e)
 
-    -- nothing else refuses
+    -- no check refuses
     pub never-refused : {refusal : Refusal} → answer ≡ Refused refusal → ⊥
     never-refused refuses = by (by-end (ends cleared))
       where

@@ -21,7 +21,8 @@ print-job-requires : tie.Need-print-job-requires
 print-job-requires c κs = search needs
 
 array-share-prefix-buffer : tie.Need-array-share-prefix-buffer
-array-share-prefix-buffer c = within (printedOf (c .before .before .before .before .args .text .now)) _ (c .print-job .ensures .0) (c .print-job .ensures .1)
+array-share-prefix-buffer c =
+    within (printedOf (c .before .before .before .before .args .text .now)) _ (c .print-job .ensures .0) (c .print-job .ensures .1)
 
 slice-aggregate-write-all : tie.Need-slice-aggregate-write-all
 slice-aggregate-write-all c = sym (length-take-le _ _ (array-share-prefix-buffer (c .before)))

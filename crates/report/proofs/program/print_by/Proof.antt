@@ -1,9 +1,7 @@
 -- The table that is read opens the settling; a refusal's line is printed. Assumes nothing.
 use borrow.Author.Needs.{needs}
-use native.Mathlib.Omega.{arith}
 use mathlib.Core.Path.{refl}
-use lib.ListN.{length}
-use Rattle.report.specs.Printed.{refused-prints, read-opens, line-printed}
+use Rattle.report.specs.Printed.{refused-prints, read-opens, refusal-printed}
 use Rattle.report.proofs.program.print_by.Statement.{statement}
 use Rattle.report.proofs.program.print_by.Tie as tie
 
@@ -51,7 +49,7 @@ same-length-7 c = search needs
 returns-2 : tie.Need-returns-2
 returns-2 c =
     let start = c .before .before .before .before .before .before .before .before .before .before .before .before .before .before .before .before .before .before .before in
-    line-printed (refused-prints (c .before .before .before .before .before .before .before .before .before .before .before .read .ensures) (start .pre .forLows) (start .pre .forHighs) (c .before .before .before .before .before .refusal .given .1)) refl (c .before .before .refusal-line .ensures .0) (c .before .before .refusal-line .ensures .1)
+    refusal-printed (refused-prints (c .before .before .before .before .before .before .before .before .before .before .before .read .ensures) (start .pre .forLows) (start .pre .forHighs) (c .before .before .before .before .before .refusal .given .1)) refl (c .before .before .refusal-line .ensures .0) (c .before .before .refusal-line .ensures .1)
 
 pub print-by-spec : {M : Type 1} → statement M
 print-by-spec =

@@ -1,7 +1,6 @@
 -- A report that is written is what is printed; without a plan it is the refusal's line, and no check refuses. Assumes nothing.
 use borrow.Author.Needs.{needs}
-use native.Mathlib.Omega.{arith}
-use Rattle.report.specs.Printed.{written-prints, none-prints, never-refused, line-printed}
+use Rattle.report.specs.Printed.{written-prints, none-prints, never-refused, refusal-printed}
 use Rattle.report.proofs.program.print_report.Statement.{statement}
 use Rattle.report.proofs.program.print_report.Tie as tie
 
@@ -56,7 +55,7 @@ returns-2 : tie.Need-returns-2
 returns-2 c =
     let start = c .before .before .before .before .before .before .before .before .before .before .before .before .before .before .before .before .before .before .before .before .before .before .before .before .before in
     let answer = none-prints (start .pre .0) (start .args .buffer .now) (start .pre .1) (c .before .before .before .before .before .before .before .before .before .before .before .before .before .before .before .report .ensures) (c .before .before .before .before .before .number .given .1) in
-    line-printed (answer .0) (answer .1) (c .before .before .refusal-line .ensures .0) (c .before .before .refusal-line .ensures .1)
+    refusal-printed (answer .0) (answer .1) (c .before .before .refusal-line .ensures .0) (c .before .before .refusal-line .ensures .1)
 
 same-length-9 : tie.Need-same-length-9
 same-length-9 c = search needs
