@@ -5,7 +5,10 @@ use crate::cases::damage::damage;
 use crate::cases::jobs::{print_job, sound, MIDDLE, TINY};
 use crate::check::{Checks, Topic};
 use crate::independent::program;
+use std::fs::File;
 use std::io::Write;
+use std::os::fd::OwnedFd;
+use std::os::unix::net::UnixStream;
 use std::path::{Path, PathBuf};
 use std::process::{Command, Stdio};
 
@@ -13,6 +16,7 @@ use std::process::{Command, Stdio};
 pub fn run(checks: &mut Checks, settle: &Path, examples: &Path) {
     checks.topic("program, examples", "planner", |topic| each_example(topic, settle, examples));
     checks.topic("program, against the independent planner", "planner", |topic| random_jobs(topic, settle));
+    checks.topic("program, failed reads and writes", "planner", |topic| failures(topic, settle, &examples.join("works.job")));
 }
 
 /// What the program writes for a text.
@@ -55,4 +59,32 @@ fn random_jobs(topic: &mut Topic, settle: &Path) {
         }
         topic.same(&Shown(&text), "written", written(settle, &text), program(&text));
     }
+}
+
+/// A failed read or write: nothing on standard output, and one line on standard error that names the stream.
+fn failures(topic: &mut Topic, settle: &Path, job: &Path) {
+    let directory = File::open("/").expect("a directory is opened");
+    fails(topic, "a directory as the input", Command::new(settle).stdin(directory), "settle: standard input: ");
+    let cut = cut_after(&std::fs::read(job).expect("the job is read"));
+    fails(topic, "an input that fails after a whole job", Command::new(settle).stdin(Stdio::from(cut)), "settle: standard input: ");
+    let whole = File::open(job).expect("the job is opened");
+    let full = File::create("/dev/full").expect("/dev/full is opened");
+    fails(topic, "an output without room", Command::new(settle).stdin(whole).stdout(full), "settle: standard output: ");
+}
+
+/// Checks that the program writes one line to standard error, which starts so, and nothing to an output that is caught.
+fn fails(topic: &mut Topic, case: &str, program: &mut Command, start: &str) {
+    let output = program.output().expect("the program runs");
+    let told = String::from_utf8_lossy(&output.stderr);
+    topic.same(&case, "standard output", output.stdout, Vec::new());
+    topic.holds(&case, "the line on standard error", told.starts_with(start) && told.find('\n') == Some(told.len() - 1));
+}
+
+/// An input that gives these bytes and then fails: the far end of a socket closes with a byte unread, which resets it.
+fn cut_after(text: &[u8]) -> OwnedFd {
+    let (mut near, mut far) = UnixStream::pair().expect("a pair of sockets");
+    near.write_all(b"x").expect("a byte that stays unread");
+    far.write_all(text).expect("the text is sent");
+    drop(far);
+    near.into()
 }
