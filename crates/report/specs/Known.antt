@@ -1,7 +1,7 @@
--- 01's report of its example job, computed. Assumes nothing.
+-- 01's report of its example job, and what the program prints of that job's text, computed. Assumes nothing.
 use Prim.Native.Nat.{ℕ}
 use mathlib.Core.List.{List, [], _∷_, flatten, map}
-use mathlib.Core.Path.{_≡_, refl}
+use mathlib.Core.Path.{_≡_, refl, ap, _∙_}
 use Rattle.model.specs.Shares.{sum, sumOf}
 use Rattle.model.specs.Figures.{deviation, spread}
 use Rattle.model.specs.Levels.{clamped, totalAt, levelBelow, level, topped, remainder, levelled}
@@ -13,7 +13,11 @@ use Rattle.model.specs.Plans.{hasPlan, turnOf, firstUp, firstDown, narrowedLow,
 use Rattle.works.specs.Tables.{widths, gather, scatter}
 use Rattle.works.specs.Settling.{narrowed, revise, passFrom, settleFrom, settle}
 use Rattle.works.specs.Known.{example, exampleTable}
+use Rattle.job.specs.Form.{printLimit, printMembers, printLine}
+use Rattle.job.specs.Job.{readLines, someUnit, readJob}
+use Rattle.job.specs.Worked.{workedLines, printLines, workedJob, worked-reads}
 use Rattle.report.specs.Lines.{settledLine, unitLine, groupLine, refusalLine}
+use Rattle.report.specs.Program.{printedRead, printedOf}
 use Rattle.report.specs.Reports.{unitLines, levelledLine, groupLines, reportOf, printed}
 
 -- 01: "For the job above, whole"
@@ -36,3 +40,28 @@ example-report = refl
 pub example-refusal : refusalLine 12 1 ≡ bytes "(refused 12 1)\n"
 unfolding line form items item flatten printNumber digitsOf
 example-refusal = refl
+
+-- 01's job text
+unfoldable pub exampleText : List ℕ
+exampleText =
+    flatten
+    (bytes "(unit 0 10)\n"
+    ∷ bytes "(unit 0 10)\n"
+    ∷ bytes "(unit 0 10)\n"
+    ∷ bytes "(group 10 (dev 4) (spread any) (of 1 2))\n"
+    ∷ bytes "(group 8 (dev any) (spread 4) (of 2 3))\n"
+    ∷ [])
+
+example-lines : exampleText ≡ printLines workedLines
+unfolding exampleText flatten workedLines printLines printLine printLimit printMembers printNumber digitsOf
+example-lines = refl
+
+-- the program prints 01's report of 01's job text
+pub example-printed : printedOf exampleText ≡ exampleReport
+unfolding printedOf printedRead workedJob example exampleTable
+example-printed = ap printedOf example-lines ∙ ap printedRead worked-reads ∙ example-report
+
+-- 01: "Empty text is 10"
+pub empty-printed : printedOf [] ≡ bytes "(refused 10 0)\n"
+unfolding printedOf printedRead readJob readLines someUnit line form items item flatten printNumber digitsOf
+empty-printed = refl

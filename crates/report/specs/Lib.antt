@@ -11,4 +11,6 @@ pub mod Promises
 pub mod Places
 pub mod Cut
 pub mod Orders
+pub mod Program
+pub mod Printed
 pub mod Known

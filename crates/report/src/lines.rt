@@ -4,6 +4,7 @@ use model::Spread;
 use print::put_form;
 use print::put_line;
 use print::put_word;
+ghost use Prim.Native.Nat.{_≤_};
 ghost use mathlib.Core.List.{flatten, _++_};
 ghost use mathlib.Core.Path.{_≡_};
 ghost use lib.ListN.{length, drop};
@@ -66,7 +67,8 @@ pub fn put_group_line(
 }
 
 // Writes a refusal's line at the start of a buffer, and hands back its length.
-pub fn refusal_line(number: u64, place: u64, buffer: &mut [u8; 64]) -> usize
+pub fn refusal_line(number: u64, place: u64, buffer: &mut [u8]) -> usize
+    requires { ⌜ 64 ≤ length (now buffer) ⌝ }
     ensures { λ r. ⌜ r ≡ length (refusalLine number place) ⌝ }
     ensures { λ r. ⌜ now (buffer .exit) ≡ refusalLine number place ++ drop (length (refusalLine number place)) (now (buffer .entry)) ⌝ }
 {

@@ -1,12 +1,18 @@
-// Reads a job from standard input, settles it, and writes the report or the refusal's line to standard output.
-use job::Reading;
+// Reads a job from standard input, and writes its report or the refusal's line to standard output. Where a read or the write
+// fails, it writes one line to standard error.
 use libc::STDIN_FILENO;
 use libc::STDOUT_FILENO;
-use report::Reporting;
-use report::calls::report;
-use report::lines::refusal_line;
+use report::program::print_job;
+ghost use Prim.Native.Nat.{_≤_};
 ghost use mathlib.Core.Path.{_≡_};
 ghost use lib.ListN.{length};
+ghost use Rattle.settle.specs.Inputs.{bytesRead};
+
+// What reading the input gives: the count of its bytes, or a failed read.
+enum Input {
+    Read(usize),
+    Failed,
+}
 
 // One byte more than a job text may have, so that a longer one is refused.
 fn job_text() -> [u8; 65537]
@@ -15,57 +21,40 @@ fn job_text() -> [u8; 65537]
     [0; 65537]
 }
 
-// Writes a refusal's line.
-fn refuse(number: u64, place: u64) {
-    let mut line = [0u8; 64];
-    let count = refusal_line(number, place, &mut line);
-    io::write_all(STDOUT_FILENO, &line[..count]);
-}
-
-// Reports a job, and writes the report or the refusal's line.
-fn write_report(
-    text: &[u8],
-    lows: &mut [u64],
-    highs: &mut [u64],
-    scratch: &mut [u64],
-    buffer: &mut [u8],
-) {
-    match report(text, lows, highs, scratch, buffer) {
-        Reporting::Written { length, .. } => {
-            io::write_all(STDOUT_FILENO, &buffer[..length]);
+// Reads standard input to its end, or until the list is full. A read that fails after others fails them all: a job cut
+// short at a line's end would pass for a whole one.
+fn read_input(text: &mut [u8]) -> Input
+    ensures { λ r. ⌜ bytesRead r ≤ length (now (text .exit)) ⌝ }
+{
+    let mut count: usize = 0;
+    while count < text.len() {
+        let got = libc::read(STDIN_FILENO, &mut text[count..]);
+        if got < 0 {
+            return Input::Failed;
         }
-        Reporting::NoPlan { number, place, .. } => refuse(number, place),
-        Reporting::Refused(refusal) => refuse(refusal.number, refusal.place),
+        let more = io::count(got, &text[count..]);
+        if more == 0 {
+            return Input::Read(count);
+        }
+        count += more;
     }
+    Input::Read(count)
 }
 
-// Fills the table from a job's unit lines and reports it, or writes the refusal's line.
-fn settle_text(
-    text: &[u8],
-    lows: &mut [u64],
-    highs: &mut [u64],
-    scratch: &mut [u64],
-    buffer: &mut [u8],
-) {
-    if let Reading::Refused(refusal) = job::read(text, lows, highs) {
-        refuse(refusal.number, refusal.place);
-        return;
+// Writes what is printed of a job text to standard output.
+fn write_printed(text: &[u8]) {
+    let mut buffer = io::large_buffer();
+    let length = print_job(text, &mut buffer);
+    if !io::write_all(STDOUT_FILENO, &buffer[..length]) {
+        os::fail(b"settle: standard output");
     }
-    write_report(text, lows, highs, scratch, buffer);
 }
 
 fn main() {
     let mut text = job_text();
-    let count = io::read_full(STDIN_FILENO, &mut text);
-    let mut lows = [0u64; 256];
-    let mut highs = [0u64; 256];
-    let mut scratch = [0u64; 2048];
-    let mut buffer = io::large_buffer();
-    settle_text(
-        &text[..count],
-        &mut lows,
-        &mut highs,
-        &mut scratch,
-        &mut buffer,
-    );
+    let Input::Read(count) = read_input(&mut text) else {
+        os::fail(b"settle: standard input");
+        return;
+    };
+    write_printed(&text[..count]);
 }

@@ -6,7 +6,10 @@ use crate::cases::damage::damage;
 use crate::cases::jobs::{print_job, sound, MIDDLE, TINY};
 use crate::check::{Checks, Topic};
 use crate::independent::program;
+use std::fs::File;
 use std::io::Write;
+use std::os::unix::io::OwnedFd;
+use std::os::unix::net::UnixStream;
 use std::path::PathBuf;
 use std::process::{Command, Stdio};
 
@@ -18,6 +21,7 @@ pub fn run(checks: &mut Checks) {
     checks.topic("program, examples", "planner", each_example);
     checks.topic("program, texts too long", "planner", too_long);
     checks.topic("program, against the independent planner", "planner", random_jobs);
+    checks.topic("program, failed reads and writes", "planner", failures);
 }
 
 /// What the program writes for a text.
@@ -67,4 +71,38 @@ fn random_jobs(topic: &mut Topic) {
         }
         topic.same(&Shown(&text), "written", written(&text), program(&text));
     }
+}
+
+/// A failed read or write: nothing on standard output, and one line on standard error that names the stream.
+fn failures(topic: &mut Topic) {
+    let job = "examples/works.job";
+    let settle = || Command::new(SETTLE);
+    let directory = File::open("/").expect("a directory is opened");
+    fails(topic, "a directory as the input", settle().stdin(directory), "settle: standard input: ");
+    let cut = Stdio::from(cut_after(&std::fs::read(job).expect("the job is read")));
+    fails(topic, "an input that fails after a whole job", settle().stdin(cut), "settle: standard input: ");
+    let whole = File::open(job).expect("the job is opened");
+    let full = File::create("/dev/full").expect("/dev/full is opened");
+    fails(topic, "an output without room", settle().stdin(whole).stdout(full), "settle: standard output: ");
+}
+
+/// Checks that the program writes one line to standard error, which starts so, and nothing to an output that is caught.
+fn fails(topic: &mut Topic, case: &str, program: &mut Command, start: &str) {
+    let output = program.output().expect("the program runs");
+    let told = String::from_utf8_lossy(&output.stderr);
+    topic.same(&case, "standard output", output.stdout, Vec::new());
+    topic.holds(
+        &case,
+        "the line on standard error",
+        told.starts_with(start) && told.find('\n') == Some(told.len() - 1),
+    );
+}
+
+/// An input that gives these bytes and then fails: the far end of a socket closes with a byte unread, which resets it.
+fn cut_after(text: &[u8]) -> OwnedFd {
+    let (mut near, mut far) = UnixStream::pair().expect("a pair of sockets");
+    near.write_all(b"x").expect("a byte that stays unread");
+    far.write_all(text).expect("the text is sent");
+    drop(far);
+    near.into()
 }
