@@ -16,7 +16,8 @@ use Rattle.text.specs.Parsed.{Parsed, parsed, failed, andThen, mapped, orElse, 
 use Rattle.text.specs.Numbers.{numberAfter, held, most}
 use Rattle.job.specs.declared.lines.Head.{Head}
 use Rattle.job.specs.Form.{UnitLine, GroupLine, Line, unit, group, unitOpening, space, unitEnding, groupOpening, deviationOpening, spreadOpening, membersOpening, groupEnding, anyWord, numberAs, limitAs, unitAs, membersAs, headAs, grouped, groupAs, lineAs, line}
-use Rattle.job.specs.Job.{Job, unitVerdict, headVerdict, membersVerdict, verdict, named, allNamed, add, stepOn, judged, memberships, greatestTotal, greatestDeviation, greatestSpread, limitUpTo, unless, distinct, first}
+use Rattle.groups.specs.Flat.{memberships}
+use Rattle.job.specs.Job.{Job, unitVerdict, headVerdict, membersVerdict, verdict, named, allNamed, add, stepOn, judged, greatestTotal, greatestDeviation, greatestSpread, limitUpTo, unless, distinct, first}
 use Rattle.text.specs.Tests.{and-left, and-right}
 use Rattle.job.specs.Verdicts.{unit-good, head-good, members-good, first-zero}
 

@@ -4,6 +4,7 @@ use mathlib.Core.Bool.{Bool, true, false, not, _&&_, _||_}
 use mathlib.Core.List.{List, [], _∷_, _++_, map}
 use lib.Dec.{leb, ltb, eqb}
 use lib.ListN.{length}
+use Rattle.groups.specs.Flat.{memberships}
 use Rattle.model.specs.Shares.{pick, greatestShare}
 use Rattle.model.specs.Groups.{Group}
 use Rattle.model.specs.declared.Limit.{Limit}
@@ -43,18 +44,9 @@ mostGroups = 64
 abbrev pub mostMemberships : ℕ
 mostMemberships = 4096
 
--- the numbers that the groups take in the flat list: 4 for each group, and the memberships
-abbrev pub mostFlat : ℕ
-mostFlat = 4352
-
 -- 01: "at most 65,536 bytes"
 abbrev pub mostBytes : ℕ
 mostBytes = 65_536
-
--- 01: memberships, "the sum of the groups' n"
-unfoldable pub memberships : List Group → ℕ
-memberships [] = 0
-memberships (g ∷ gs) = length (g .members) + memberships gs
 
 -- any, or a number in range
 abbrev pub limitUpTo : ℕ → Limit → Bool

@@ -12,8 +12,9 @@ use Rattle.model.specs.Shares.{pick, greatestShare, Ranges, none as no-ranges, 
 use Rattle.model.specs.Groups.{Group}
 use Rattle.text.specs.Parsed.{Parsed, parsed, failed}
 use Rattle.job.specs.Form.{Line, unit, group, line}
-use Rattle.job.specs.Job.{Job, greatestTotal, greatestDeviation, greatestSpread, mostUnits, mostGroups, mostMemberships, mostBytes, memberships, limitUpTo, distinct, groupOf, verdict, add, placeOf, judged, Stepped, next, stop, stepOn, Outcome, accepted, refused, refusal, onward, readLines, noLines, someUnit, readJob}
-use Rattle.job.specs.Flat.{memberships-snoc}
+use Rattle.groups.specs.Flat.{memberships}
+use Rattle.groups.specs.Laws.Storing.{memberships-snoc}
+use Rattle.job.specs.Job.{Job, greatestTotal, greatestDeviation, greatestSpread, mostUnits, mostGroups, mostMemberships, mostBytes, limitUpTo, distinct, groupOf, verdict, add, placeOf, judged, Stepped, next, stop, stepOn, Outcome, accepted, refused, refusal, onward, readLines, noLines, someUnit, readJob}
 use Rattle.job.specs.Distinct.{AllBelow, distinct-members, members-below}
 use Rattle.job.specs.Verdicts.{unit-good, first-zero, head-good, members-good}
 

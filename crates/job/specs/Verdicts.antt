@@ -6,6 +6,7 @@ use mathlib.Core.Path.{_≡_, refl}
 use native.Mathlib.Omega.{arith}
 use borrow.Author.Tests.{le-leb, lt-ltb, leb-true, ltb-true, eqb-true}
 use lib.Dec.{leb, ltb, eqb}
+use Rattle.groups.specs.Flat.{mostWord, Coded}
 use Rattle.model.specs.Shares.{greatestShare}
 use Rattle.model.specs.declared.Limit.{Limit}
 use Rattle.model.specs.declared.Limit.the-variants.{Any, AtMost}
@@ -86,7 +87,7 @@ members-good units ms h =
     let b = unless-zero (distinct ms) 8 _ (a .1) in
     record { all-named = a .0; all-distinct = b .0 }
 
--- a limit up to a number is up to a greater one
-pub limit-wider : (a b : ℕ) (l : Limit) → a ≤ b → limitUpTo a l ≡ true → limitUpTo b l ≡ true
-limit-wider a b Any h e = refl
-limit-wider a b (AtMost v) h e = le-leb v b (omega (arith, leb-true v a e))
+-- a limit in range can be stored
+pub limit-coded : (most : ℕ) (l : Limit) → most < mostWord → limitUpTo most l ≡ true → Coded l
+limit-coded most Any h e = omega arith
+limit-coded most (AtMost v) h e = omega (arith, leb-true v most e)

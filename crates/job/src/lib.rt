@@ -3,8 +3,10 @@ ghost use mathlib.Core.Path.{_≡_};
 ghost use Prim.Native.Nat.{_≤_};
 ghost use mathlib.Core.List.{_++_};
 ghost use lib.ListN.{length, take, drop};
-ghost use Rattle.job.specs.Job.{mostUnits, mostFlat};
+ghost use Rattle.groups.specs.Flat.{mostFlat};
+ghost use Rattle.job.specs.Job.{mostUnits};
 ghost use Rattle.job.specs.Reading.{Scanned, Filled};
+use groups::MOST_FLAT;
 use model::Refusal;
 use reader::scan_lines;
 
@@ -83,6 +85,6 @@ pub fn read(text: &[u8], lows: &mut [u64], highs: &mut [u64]) -> Reading
 {
     let mut least = [0u64; 256];
     let mut greatest = [0u64; 256];
-    let mut flat = [0u64; 4352];
+    let mut flat = [0u64; MOST_FLAT];
     read_by(text, lows, highs, &mut least, &mut greatest, &mut flat)
 }

@@ -1,12 +1,10 @@
 -- In the arm that binds the number, the limit is AtMost at it. Assumes nothing.
-use mathlib.Core.Bool.{true}
-use mathlib.Core.Path.{_≡_}
-use lib.Dec.{leb}
-use borrow.Author.Tests.{leb-true}
-use native.Mathlib.Omega.{arith}
 use borrow.Author.Needs.{needs}
-use Rattle.job.proofs.steps.limit_code.Statement.{statement}
-use Rattle.job.proofs.steps.limit_code.Tie as tie
+use native.Mathlib.Omega.{arith}
+use Prim.Native.Nat.{_+_, _≤_}
+use Rattle.groups.specs.Flat.{mostWord}
+use Rattle.groups.proofs.limit_code.Statement.{statement}
+use Rattle.groups.proofs.limit_code.Tie as tie
 
 enum-told : tie.Need-enum-told
 enum-told c = search needs
@@ -16,8 +14,8 @@ enum-known-limit c = search needs
 
 add-result : tie.Need-add-result
 add-result c =
-    let h : leb (c .before .limit .given .0 .0) 1_000_000_000_000_000_000 ≡ true = rw (c .before .limit .given .1) at (c .before .before .before .pre) in
-    omega (arith, leb-true (c .before .limit .given .0 .0) 1_000_000_000_000_000_000 h)
+    let fits : c .before .limit .given .0 .0 + 1 ≤ mostWord = rw (c .before .limit .given .1) at (c .before .before .before .pre) in
+    omega (arith, fits)
 
 returns : tie.Need-returns
 returns c = search needs

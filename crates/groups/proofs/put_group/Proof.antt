@@ -4,8 +4,8 @@ use mathlib.Core.Path.{_≡_}
 use lib.ListN.{length-set}
 use native.Mathlib.Omega.{arith}
 use borrow.Author.Needs.{needs}
-use Rattle.job.proofs.steps.put_head.Statement.{statement}
-use Rattle.job.proofs.steps.put_head.Tie as tie
+use Rattle.groups.proofs.put_group.Statement.{statement}
+use Rattle.groups.proofs.put_group.Tie as tie
 
 limit-code-requires : tie.Need-limit-code-requires
 limit-code-requires c κs = search needs
@@ -51,14 +51,14 @@ same-length c = search needs
 
 returns : tie.Need-returns
 returns c =
-    let at : ℕ = c .before .before .before .before .args .at in
+    let at : ℕ = c .before .before .before .args .at in
     let one : at + 1 ≡ suc at = omega arith in
     let two : at + 2 ≡ suc (suc at) = omega arith in
     let three : at + 3 ≡ suc (suc (suc at)) = omega arith in
     rw (one, two, three, c .before .limit-code .ensures, c .limit-code2 .ensures)
 
-pub put-head-spec : {M : Type 1} → statement M
-put-head-spec =
+pub put-group-spec : {M : Type 1} → statement M
+put-group-spec =
     tie.close
     (tie.spec
     limit-code-requires
