@@ -2,11 +2,14 @@ pub mod Sound
 pub mod Bounds
 pub mod Figures
 pub mod Checks
+pub mod First
+pub mod Findings
 pub mod Levelling
-pub mod Passed
 pub mod Tabled
 pub mod Edges
 pub mod Reaching
 pub mod Flanks
 pub mod Ends
 pub mod Narrowing
+pub mod Answers
+pub mod Promises

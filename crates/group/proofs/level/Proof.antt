@@ -5,7 +5,7 @@ use lib.Dec.{leb}
 use lib.ListN.{length}
 use Rattle.group.specs.Sound.{greatestTotal}
 use Rattle.group.specs.Checks.{checkLists}
-use Rattle.group.specs.Passed.{passed-sound}
+use Rattle.group.specs.Findings.{check-exactly, passed-sound}
 use Rattle.group.specs.Levelling.{levelling}
 use Rattle.group.specs.declared.Check.the-variants.{Passed}
 use Rattle.group.proofs.level.Statement.{statement}
@@ -33,7 +33,7 @@ module _ (c : tie.After-enum-told) where
       cc
 
 level-core-requires : tie.Need-level-core-requires
-level-core-requires c κs = passed-sound _ _ _ _ (passed (c .before))
+level-core-requires c κs = passed-sound (check-exactly _ _ _ _ _ .0 (passed (c .before)))
 
 returns : tie.Need-returns
 unfolding levelling

@@ -3,7 +3,7 @@ use borrow.Author.Needs.{needs}
 use mathlib.Core.Path.{_≡_, refl}
 use lib.ListN.{length}
 use Rattle.group.specs.Checks.{amountsWithin, checkLists}
-use Rattle.group.specs.Passed.{passed-sound}
+use Rattle.group.specs.Findings.{check-exactly, passed-sound}
 use Rattle.group.specs.Narrowing.{narrowing, after-narrowed, after-refused, answer-narrowed, answer-refused}
 use Rattle.group.specs.declared.Check.the-variants.{Passed}
 use Rattle.group.proofs.narrow.Statement.{statement}
@@ -48,7 +48,7 @@ module _ (c : tie.After-enum-told) where
       cc
 
 narrow-core-requires : tie.Need-narrow-core-requires
-narrow-core-requires c κs = passed-sound _ _ _ _ (passed (c .before .before)) .0
+narrow-core-requires c κs = passed-sound (check-exactly _ _ _ _ _ .0 (passed (c .before .before))) .0
 
 enum-known-number : tie.Need-enum-known-number
 enum-known-number c = search needs

@@ -20,3 +20,8 @@ both p q = rw (p, q)
 -- a test does not both hold and fail
 pub clash : {b : Bool} → b ≡ true → b ≡ false → ⊥
 clash holds fails = let z : _≡_ {A = ℕ} 0 1 = cc in omega arith
+
+-- a test that cannot hold fails
+pub refuted : (b : Bool) → (b ≡ true → ⊥) → b ≡ false
+refuted true none = absurd (none refl)
+refuted false none = refl

@@ -1,20 +1,19 @@
 -- A table that passes the checks is ready for settling. Assumes nothing.
-use Prim.Native.Nat.{ℕ, suc, _*_, _≤_}
-use mathlib.Core.Bool.{Bool, true, false}
+use Prim.Native.Nat.{ℕ, _*_, _≤_}
+use mathlib.Core.Bool.{true}
 use mathlib.Core.List.{List, _++_}
-use mathlib.Core.Path.{_≡_, refl}
+use mathlib.Core.Path.{_≡_, refl, sym, _∙_}
 use native.Mathlib.Omega.{arith}
-use borrow.Author.Tests.{leb-true, le-leb, eq-eqb, not-false}
+use borrow.Author.Tests.{leb-true, le-leb, not-false}
 use lib.Dec.{leb}
 use lib.ListN.{length, take, drop}
 use lib.Seq.{length-take-le}
-use Rattle.group.specs.Checks.{firstFailing, areShares, firstBeyond, firstCrossed, sized, refuseIf, checkLists}
-use Rattle.group.specs.Passed.{refuse-passed, passed-sound}
+use Rattle.group.specs.Checks.{checkLists}
+use Rattle.group.specs.Findings.{Finding, SizedLists, check-exactly, passed-sound, refuse-passed}
 use Rattle.group.specs.Sound as one
-use Rattle.group.specs.declared.Check.{Check}
 use Rattle.group.specs.declared.Check.the-variants.{Passed, Failed}
 use Rattle.model.specs.Laws.Tests.{both, both-left, both-right}
-use Rattle.model.specs.Shares.{Ranges, greatestShare}
+use Rattle.model.specs.Shares.{Ranges}
 use Rattle.model.specs.declared.Refusal.{Refusal}
 use Rattle.works.specs.Answers.{answerOf, tableAfter}
 use Rattle.works.specs.Calls.{settlement, hasRoom, checkTable, settleJob}
@@ -41,28 +40,22 @@ roomy units lows highs scratch held =
       forScratch = leb-true _ _ (both-right (leb units highs) _ others);
     }
 
--- where every range passes a test, none is the first to fail
-all-pass : (test : ℕ → ℕ → Bool) (place : ℕ) → ((low high : ℕ) → low ≤ high → high ≤ greatestShare → test low high ≡ true)
-    → {lows highs : List ℕ} → Ranges lows highs → firstFailing test place lows highs ≡ 0
-unfolding firstFailing
-all-pass test place passing Ranges.none = refl
-all-pass test place passing (Ranges.also p q ranges) = rw (passing _ _ p q) (all-pass test (suc place) passing ranges)
-
 -- a table with room whose first units have ranges passes
 pub ranges-pass : (units : ℕ) (lows highs : List ℕ) (scratch : ℕ) → 1 ≤ units → units ≤ one.greatestCount
     → Roomy units (length lows) (length highs) scratch → Ranges (take units lows) (take units highs)
     → checkTable units lows highs scratch ≡ Passed
-unfolding checkTable checkLists
+unfolding checkTable
 ranges-pass units lows highs scratch some few room ranges =
     let roomed : hasRoom units (length lows) (length highs) scratch ≡ true =
     both (le-leb units _ (room .forLows)) (both (le-leb units _ (room .forHighs)) (le-leb (8 * units) _ (room .forScratch))) in
-    let sizes : sized (length (take units lows)) (length (take units highs)) units ≡ true =
-    rw (length-take-le units lows (room .forLows), length-take-le units highs (room .forHighs))
-    (both (le-leb 1 units some) (both (eq-eqb units units refl) (both (le-leb units one.greatestCount few) (le-leb units units (omega arith))))) in
-    let beyond : firstBeyond (take units lows) (take units highs) ≡ 0 =
-    all-pass areShares 1 (λ l h p q. both (le-leb l greatestShare (omega arith)) (le-leb h greatestShare q)) ranges in
-    let crossed : firstCrossed (take units lows) (take units highs) ≡ 0 = all-pass leb 1 (λ l h p q. le-leb l h p) ranges in
-    rw (roomed, sizes, beyond, crossed)
+    let many = length-take-le units lows (room .forLows) in
+    let sizes : SizedLists (take units lows) (take units highs) units = record {
+      some = omega arith;
+      paired = many ∙ sym (length-take-le units highs (room .forHighs));
+      few = omega arith;
+      fits = omega arith;
+    } in
+    rw roomed (check-exactly (take units lows) (take units highs) units true Passed .1 (Finding.passed sizes refl ranges))
 
 module _ (units : ℕ) (lows highs : List ℕ) (scratch : ℕ) where
   -- a table that passes has room, and its first units have ranges
@@ -77,7 +70,7 @@ module _ (units : ℕ) (lows highs : List ℕ) (scratch : ℕ) where
 
     -- the ranges are those of one group
     pub passed-ranges : one.Sound (take units lows) (take units highs)
-    passed-ranges = passed-sound (take units lows) (take units highs) units true (parts .1) .0
+    passed-ranges = passed-sound (check-exactly (take units lows) (take units highs) units true Passed .0 (parts .1)) .0
 
     -- groups prepared for as many units can be settled over them
     pub passed-opening : {flat : List ℕ} {count : ℕ} → Prepared flat count units
