@@ -45,6 +45,7 @@ pub data LevelFinding (lows highs : List ℕ) (total room : ℕ) : Levelling →
       (level.Levelled (record { copies = level lows highs total }) (figuresOf (length lows) total (levelled lows highs total)))
 
 module _ (lows highs : List ℕ) (total room : ℕ) where
+  -- the checks say what their words say
   level-check : {check : Check} → LevelChecks lows highs total room check → checkLists lows highs room (leb total greatestTotal) ≡ check
   level-check = check-exactly lows highs room (leb total greatestTotal) _ .1
 
@@ -55,9 +56,11 @@ module _ (lows highs : List ℕ) (total room : ℕ) where
   level-given (LevelFinding.noShares clear none) = rw (level-check clear, no-shares (passed-sound clear .0 .ranges) total none)
   level-given (LevelFinding.answered clear some) = rw (level-check clear, shares-found (passed-sound clear .0 .ranges) total some)
 
+  -- so the words that hold are those of the answer
   level-held : {answer : Levelling} → LevelFinding lows highs total room answer → LevelFinding lows highs total room (levelling lows highs total room)
   level-held finding = rw (level-given finding) finding
 
+  -- past the checks, by the test for shares
   by-shares : (b : Bool) → hasShares lows highs total ≡ b → LevelChecks lows highs total room Passed
       → LevelFinding lows highs total room (levelling lows highs total room)
   by-shares true found clear = level-held (LevelFinding.answered clear (found-shares (passed-sound clear .0 .ranges) total found))
@@ -99,6 +102,7 @@ pub data NarrowFinding (lows highs : List ℕ) (total : ℕ) (limits : Limits) :
       → NarrowFinding lows highs total limits narrow.Narrowed
 
 module _ (lows highs : List ℕ) (total : ℕ) (limits : Limits) where
+  -- the checks say what their words say
   narrow-check : {check : Check} → NarrowChecks lows highs total limits check
       → checkLists lows highs (length lows) (amountsWithin total limits) ≡ check
   narrow-check = check-exactly lows highs (length lows) (amountsWithin total limits) _ .1
@@ -116,10 +120,12 @@ module _ (lows highs : List ℕ) (total : ℕ) (limits : Limits) where
   narrow-given (NarrowFinding.noPlan clear some none) = rw (narrow-check clear, narrow-turn clear (Verdict.noPlan some none))
   narrow-given (NarrowFinding.answered clear some) = rw (narrow-check clear, narrow-turn clear (Verdict.narrowed some))
 
+  -- so the words that hold are those of the answer
   narrow-held : {answer : Narrowing} → NarrowFinding lows highs total limits answer
       → NarrowFinding lows highs total limits (narrowing lows highs total limits)
   narrow-held finding = rw (narrow-given finding) finding
 
+  -- past the checks, by the turn
   by-verdict : {turn : Turn} → NarrowChecks lows highs total limits Passed → Verdict lows highs total limits turn
       → NarrowFinding lows highs total limits (narrowing lows highs total limits)
   by-verdict clear (Verdict.narrowed some) = narrow-held (NarrowFinding.answered clear some)

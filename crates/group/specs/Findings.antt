@@ -29,6 +29,7 @@ pub record Sized (count other room : ℕ) : Type 0 where
   pub few : count ≤ greatestCount
   pub fits : count ≤ room
 
+-- so long are the lows and the highs
 abbrev pub SizedLists : List ℕ → List ℕ → ℕ → Type 0
 SizedLists lows highs room = Sized (length lows) (length highs) room
 

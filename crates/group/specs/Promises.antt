@@ -41,12 +41,13 @@ pub record LeastShares (lows highs : List ℕ) (total : ℕ) (shares : List ℕ)
   pub leastSpread : (xs : List ℕ) → Within lows highs xs → sum xs ≡ total → spread (length lows) total shares ≤ spread (length lows) total xs
   pub leastAbove : (xs : List ℕ) → Within lows highs xs → sum xs ≡ total → (t : ℕ) → above t shares ≤ above t xs
 
--- what levelling promises: the plan list begins with least shares and keeps its numbers past them; level and figures are theirs
-pub record LevelPromise (lows highs : List ℕ) (total v : ℕ) (figures : Figures) (before after : List ℕ) : Type 0 where
+-- what levelling promises where it answers level v and these figures: the plan list begins with least shares, whose figures they are,
+-- and keeps its numbers past the members
+pub record LevelPromise (lows highs : List ℕ) (total v : ℕ) (answered : Figures) (before after : List ℕ) : Type 0 where
   pub least : LeastShares lows highs total (take (length lows) after)
   pub past : drop (length lows) after ≡ drop (length lows) before
   pub level : GreatestLevel lows highs total v
-  pub theirs : figures ≡ figuresOf (length lows) total (take (length lows) after)
+  pub figures : answered ≡ figuresOf (length lows) total (take (length lows) after)
 
 module _ (lows highs : List ℕ) (total : ℕ) (plan : List ℕ) where
   -- the plan list after levelling
@@ -78,7 +79,7 @@ module _ (lows highs : List ℕ) (total : ℕ) (plan : List ℕ) where
           fits = level-holds lows highs total (rw (totalAt-least ranges) (between .0));
           greatest = level-greatest lows highs total;
         };
-        theirs = rw first;
+        figures = rw first;
       }
 
   -- 01, demand 2, for levelling
@@ -90,7 +91,7 @@ module _ (lows highs : List ℕ) (total : ℕ) (plan : List ℕ) where
   pub level-unchanged : {refused : Refusal} → levelling lows highs total (length plan) ≡ level.Refused refused → planLeft ≡ plan
   level-unchanged is = rw is
 
--- what narrowing promises: ranges inside those at the call, and a value lies in a member's exactly if some plan within those at the call takes it
+-- 01, demand 2: ranges inside those at the call, and a value lies in a member's range exactly if some plan within those at the call takes it
 pub record NarrowPromise (lows highs : List ℕ) (total : ℕ) (limits : Limits) (lowsAfter highsAfter : List ℕ) : Type 0 where
   pub ranges : Ranges lowsAfter highsAfter
   pub inside : Inside lowsAfter highsAfter lows highs
