@@ -1,18 +1,17 @@
 // The figures of a group's levelled shares, and whether they are within its limits.
-use crate::Figures;
 use crate::shares::extra;
 use crate::shares::sum_of;
 use model::Deviation;
+use model::Figures;
 use model::Spread;
 use probe::pins::clamp;
 ghost use mathlib.Core.Path.{_≡_};
 ghost use lib.ListN.{length};
 ghost use Rattle.model.specs.Shares.{sum};
-ghost use Rattle.model.specs.Figures.{apart};
+ghost use Rattle.model.specs.Figures.{apart, figuresOf};
 ghost use Rattle.model.specs.Levels.{topped};
 ghost use Rattle.model.specs.Plans.{hasShares};
 ghost use Rattle.group.specs.Sound.{Sound};
-ghost use Rattle.group.specs.Figures.{figuresOf};
 
 // The difference of two numbers.
 pub(crate) fn apart(a: u64, b: u64) -> u64

@@ -53,6 +53,12 @@ impl Spread {
     }
 }
 
+// The figures of a group's shares.
+pub struct Figures {
+    pub deviation: Deviation,
+    pub spread: Spread,
+}
+
 // A limit is a number or the word any.
 pub enum Limit {
     Any,
@@ -88,13 +94,14 @@ impl Limits {
         }
     }
 
-    pub fn met(self, deviation: Deviation, spread: Spread) -> bool
-        ensures { λ r. ⌜ r ≡ met self (deviation .0) (spread .0) ⌝ }
+    // Whether each limit allows its figure.
+    pub fn met(self, figures: Figures) -> bool
+        ensures { λ r. ⌜ r ≡ met self figures ⌝ }
     {
-        if !self.allows_deviation(deviation) {
+        if !self.allows_deviation(figures.deviation) {
             return false;
         }
-        self.allows_spread(spread)
+        self.allows_spread(figures.spread)
     }
 }
 

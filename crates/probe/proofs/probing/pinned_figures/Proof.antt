@@ -14,9 +14,9 @@ use Rattle.probe.specs.Tables.{Sound, Sums, Table, Small, fromMean, squa
 use Rattle.probe.specs.Pins.{Pin, Reached}
 use Rattle.probe.specs.Probes.{pinnedTotal, Found, Divided, pinnable, growing, reached, divided-few}
 use Rattle.probe.specs.Figures.{Summable, summable, moves-sum}
-use Rattle.probe.specs.Verdicts.{Asked, meets-reached, squares-enough, squares-small}
-use Rattle.probe.proofs.probing.met_at.Statement.{statement}
-use Rattle.probe.proofs.probing.met_at.Tie as tie
+use Rattle.probe.specs.Verdicts.{Asked, pinned-figures, squares-enough, squares-small}
+use Rattle.probe.proofs.probing.pinned_figures.Statement.{statement}
+use Rattle.probe.proofs.probing.pinned_figures.Tie as tie
 
 -- what the function is asked, seen from its start
 module _ (s : tie.Start) where
@@ -134,19 +134,15 @@ from-squares-requires c κs =
     let small = squares-small (sound (begun c)) pin (there (at c) pin) (is-deviation c pin) (is-squares c pin) in
     (squares-enough (sound (begun c)) pin (there (at c) pin) (is-deviation c pin) (is-squares c pin), omega (arith, small))
 
-met-requires : tie.Need-met-requires
-met-requires c κs = search needs
-
 returns : tie.Need-returns
 returns c = record {
   is = λ pin.
-      let b = c .before .before in
-      let meets = meets-reached (sound (begun b)) pin (there (at b) pin) (is-deviation b pin) (is-squares b pin) (begun b .args .limits) in
-      rw (c .before .from-squares .ensures) at (c .met .ensures) ∙ meets;
+      let b = c .before in
+      rw (← c .from-squares .ensures) at (pinned-figures (sound (begun b)) pin (there (at b) pin) (is-deviation b pin) (is-squares b pin));
 }
 
-pub met-at-spec : {M : Type 1} → statement M
-met-at-spec =
+pub pinned-figures-spec : {M : Type 1} → statement M
+pinned-figures-spec =
     tie.close
     (tie.spec
     read-row-requires
@@ -157,5 +153,4 @@ met-at-spec =
     pinned-deviation-requires
     pinned-squares-requires
     from-squares-requires
-    met-requires
     returns)
