@@ -7,6 +7,7 @@ use mathlib.Core.Path.{_≡_, refl}
 use native.Mathlib.Omega.{arith}
 use lib.Dec.{leb}
 use lib.ListN.{length}
+use Rattle.model.specs.Shares.{greatestTotal}
 use Rattle.model.specs.Figures.{figuresOf}
 use Rattle.model.specs.Levels.{level, levelled}
 use Rattle.model.specs.Plans.{hasShares, turnOf}
@@ -18,7 +19,6 @@ use Rattle.model.specs.declared.Turn.{Turn}
 use Rattle.group.specs.Checks.{amountsWithin, checkLists}
 use Rattle.group.specs.Levelling.{levelledTo, levelling}
 use Rattle.group.specs.Narrowing.{narrowing}
-use Rattle.group.specs.Sound.{greatestTotal}
 use Rattle.group.specs.declared.Check.{Check}
 use Rattle.group.specs.declared.Check.the-variants.{Passed, Failed}
 use Rattle.group.specs.declared.Levelling.{Levelling}

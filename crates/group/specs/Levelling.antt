@@ -5,7 +5,7 @@ use mathlib.Core.Path.{_≡_}
 use mathlib.Core.List.{List, _++_}
 use lib.Dec.{leb}
 use lib.ListN.{length, drop}
-use Rattle.model.specs.Shares.{pick}
+use Rattle.model.specs.Shares.{pick, greatestTotal}
 use Rattle.model.specs.declared.Figures.{Figures}
 use Rattle.model.specs.declared.Share.{Share}
 use Rattle.model.specs.declared.Checked.{Checked}
@@ -13,7 +13,6 @@ use Rattle.model.specs.declared.Checked.the-variants.{Valid}
 use Rattle.model.specs.Figures.{figuresOf}
 use Rattle.model.specs.Levels.{level, levelled}
 use Rattle.model.specs.Plans.{hasShares}
-use Rattle.group.specs.Sound.{greatestTotal}
 use Rattle.group.specs.Checks.{checkLists}
 use Rattle.group.specs.declared.Check.{Check}
 use Rattle.group.specs.declared.Check.the-variants.{Passed, Failed}

@@ -9,6 +9,7 @@ use crate::shares::level_at;
 use crate::shares::remainder_at;
 use model::Checked;
 use model::Figures;
+use model::GREATEST_TOTAL;
 use model::Limits;
 use model::Refusal;
 use model::Share;
@@ -30,15 +31,6 @@ pub mod shares;
 
 // A group has at most so many members.
 pub const GREATEST_COUNT: usize = 256;
-
-// A group's total is at most this.
-pub const GREATEST_TOTAL: u64 = 256_000_000;
-
-// A deviation limit is at most this.
-pub const GREATEST_DEVIATION: u64 = 100_000_000_000;
-
-// A spread limit is at most this.
-pub const GREATEST_SPREAD: u64 = 100_000_000_000_000_000;
 
 // What the checks on a group's lists answer.
 pub enum Check {

@@ -4,7 +4,7 @@ use crate::shares::sum_of;
 use model::Deviation;
 use model::Figures;
 use model::Spread;
-use probe::pins::clamp;
+use model::levels::clamp;
 ghost use mathlib.Core.Path.{_≡_};
 ghost use lib.ListN.{length};
 ghost use Rattle.model.specs.Shares.{sum};

@@ -8,6 +8,7 @@ ghost use Rattle.job.specs.Job.{mostUnits};
 ghost use Rattle.job.specs.Reading.{Scanned, Filled};
 use groups::MOST_FLAT;
 use model::Refusal;
+use model::lists::copy;
 use reader::scan_lines;
 
 pub mod lines;
@@ -45,11 +46,7 @@ fn copy_front(from: &[u64], to: &mut [u64], count: usize)
     requires { ⌜ (count ≤ length (now from)) × (count ≤ length (now to)) ⌝ }
     ensures { λ _. ⌜ now (to .exit) ≡ take count (now (from .entry)) ++ drop count (now (to .entry)) ⌝ }
 {
-    let mut i = 0;
-    while i < count {
-        to[i] = from[i];
-        i += 1;
-    }
+    copy(&from[..count], &mut to[..count]);
 }
 
 // Reads a text into a table, by way of lists that hold every job.

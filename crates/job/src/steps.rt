@@ -3,7 +3,7 @@ ghost use mathlib.Core.Path.{_≡_};
 ghost use Prim.Native.Nat.{_≤_};
 ghost use lib.ListN.{length};
 ghost use Rattle.groups.specs.Flat.{mostFlat};
-ghost use Rattle.job.specs.Job.{mostBytes, mostUnits, refusal, limitUpTo, unitVerdict, headVerdict, distinct};
+ghost use Rattle.job.specs.Job.{mostBytes, mostUnits, refusal, unitVerdict, headVerdict, distinct};
 ghost use Rattle.job.specs.Distinct.{AllBelow, freshBy};
 ghost use Rattle.job.specs.Steps.{Bounded, UnitTaken, GroupTaken, LineTaken};
 ghost use Rattle.job.specs.Taking.{placeAt};
@@ -15,7 +15,9 @@ use crate::lines::unit_line;
 use groups::HEAD;
 use groups::put_group;
 use model::Checked;
-use model::Limit;
+use model::GREATEST_DEVIATION;
+use model::GREATEST_SPREAD;
+use model::GREATEST_TOTAL;
 use model::Refusal;
 use model::Share;
 use text::Spot;
@@ -39,12 +41,6 @@ pub const MOST_GROUPS: usize = 64;
 
 pub const MOST_MEMBERSHIPS: usize = 4096;
 
-const MOST_TOTAL: u64 = 256_000_000;
-
-const MOST_DEVIATION: u64 = 100_000_000_000;
-
-const MOST_SPREAD: u64 = 100_000_000_000_000_000;
-
 // The refusal of a unit line, 0 where there is none.
 fn unit_verdict(progress: Progress, low: u64, high: u64) -> u64
     ensures { λ r. ⌜ r ≡ unitVerdict (progress .units) (progress .groups) (record { low = low; high = high }) ⌝ }
@@ -67,30 +63,21 @@ fn unit_verdict(progress: Progress, low: u64, high: u64) -> u64
     0
 }
 
-fn limit_up_to(limit: Limit, most: u64) -> bool
-    ensures { λ r. ⌜ r ≡ limitUpTo most limit ⌝ }
-{
-    match limit {
-        Limit::Any => true,
-        Limit::AtMost(number) => number <= most,
-    }
-}
-
 // The refusal of a group line by its head and the number of its members, 0 where there is none.
 fn head_verdict(progress: Progress, head: Head, count: usize) -> u64
     requires { ⌜ Bounded progress ⌝ }
     ensures { λ r. ⌜ r ≡ headVerdict (progress .groups) (progress .memberships) (head .total) (head .limits) count ⌝ }
 {
-    if MOST_TOTAL < head.total {
+    if GREATEST_TOTAL < head.total {
         return 4;
     }
     let limits = head.limits;
     let deviation = limits.deviation;
-    if !limit_up_to(deviation, MOST_DEVIATION) {
+    if !deviation.within(GREATEST_DEVIATION) {
         return 4;
     }
     let spread = limits.spread;
-    if !limit_up_to(spread, MOST_SPREAD) {
+    if !spread.within(GREATEST_SPREAD) {
         return 4;
     }
     if MOST_GROUPS <= progress.groups {

@@ -34,6 +34,18 @@ abbrev pub allows : Limit → ℕ → Bool
 allows Any figure = true
 allows (AtMost most) figure = leb figure most
 
+-- 01: "the deviation limit 0 to 100,000,000,000, the spread limit 0 to 100,000,000,000,000,000"
+abbrev pub greatestDeviation : ℕ
+greatestDeviation = 100_000_000_000
+
+abbrev pub greatestSpread : ℕ
+greatestSpread = 100_000_000_000_000_000
+
+-- a limit is any, or a number in its range
+abbrev pub limitWithin : Limit → ℕ → Bool
+limitWithin Any greatest = true
+limitWithin (AtMost most) greatest = leb most greatest
+
 -- each figure is within its limit
 abbrev pub met : Limits → Figures → Bool
 met limits figures = allows (limits .deviation) (figures .deviation .0) && allows (limits .spread) (figures .spread .0)

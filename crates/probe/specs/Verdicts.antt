@@ -1,6 +1,6 @@
 -- What a probe answers is whether the pinned group has a plan. Assumes nothing.
 use Prim.Native.Nat.{ℕ, _-_, _*_, _≤_, _<_}
-use mathlib.Core.Bool.{Bool, true, false, _&&_}
+use mathlib.Core.Bool.{true, false}
 use mathlib.Core.List.{List}
 use mathlib.Core.Path.{_≡_, refl, sym, ap, _∙_}
 use native.Mathlib.Nat.{mul-le-mul}
@@ -18,6 +18,7 @@ use Rattle.model.specs.Laws.Level.{totalAt-least, totalAt-greatest}
 use Rattle.model.specs.Laws.Levelled.{topped-within}
 use Rattle.model.specs.Laws.Lists.{sum-sumOf, within-at, within-length, ranges-at}
 use Rattle.model.specs.Laws.Spread.{cauchy-schwarz, sumOf-bound}
+use Rattle.model.specs.Laws.Tests.{right-fails}
 use Rattle.probe.specs.declared.rows.Row.{Row}
 use Rattle.probe.specs.Rows.{rowAt}
 use Rattle.probe.specs.Tables.{Sound, Table, Small, greatestPart, itself, fromMean, square, small-square}
@@ -37,11 +38,6 @@ topped-small {lows} {highs} ranges {f} small w r =
 total-itself : (lows highs : List ℕ) (w : ℕ) → totalAt lows highs w ≡ sumOf itself (clamped lows highs w)
 unfolding totalAt
 total-itself lows highs w = sum-sumOf (clamped lows highs w)
-
--- a test of two fails where the second does
-right-fails : (a : Bool) {b : Bool} → b ≡ false → a && b ≡ false
-right-fails true e = e
-right-fails false e = refl
 
 module _ {lows highs lows′ highs′ : List ℕ} {total low high v : ℕ} (sound : Sound lows highs total) (pin : Pin lows highs low high v lows′ highs′) where
   module _ {m c w r : ℕ} (reached : Reached lows′ highs′ total m c w r) {d q : ℕ}

@@ -1,7 +1,6 @@
 // Probes of pinned values on the breakpoint table of a group.
 use crate::figures::pinned_deviation;
 use crate::figures::pinned_squares;
-use crate::pins::clamp;
 use crate::pins::last_within;
 use crate::pins::pinned_total;
 use crate::pins::reach_from;
@@ -9,6 +8,7 @@ use crate::rows::read_row;
 use model::Figures;
 use model::Limits;
 use model::Spread;
+use model::levels::clamp;
 ghost use mathlib.Core.Path.{_≡_};
 ghost use Prim.Native.Nat.{_*_, _≤_, _<_};
 ghost use lib.ListN.{length, getD};

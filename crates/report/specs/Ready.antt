@@ -3,9 +3,10 @@ use Prim.Native.Nat.{ℕ, suc, _≤_}
 use mathlib.Core.List.{List, List·Memᴰ}
 use mathlib.Core.Path.{_≡_}
 use lib.ListN.{length}
+use Rattle.model.specs.Shares.{greatestTotal}
 use Rattle.model.specs.Groups.{Group}
 use Rattle.group.specs.Sound.{HasShares, greatestCount}
-use Rattle.job.specs.Job.{greatestTotal, mostUnits, mostGroups, mostMemberships, memberships}
+use Rattle.job.specs.Job.{mostUnits, mostGroups, mostMemberships, memberships}
 use Rattle.works.specs.Flat.{groupsIn, Holds}
 use Rattle.works.specs.Tables.{Table, Valid, Named, units, lowsOf, highsOf}
 

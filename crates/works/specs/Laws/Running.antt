@@ -1,6 +1,6 @@
 -- Settling step by step: what is left of a pass after some turns, and of a settling after some passes. Assumes nothing.
 use Prim.Native.Nat.{ℕ, zero, suc, _+_, _≤_, _<_}
-use mathlib.Core.Bool.{Bool, true, false}
+use mathlib.Core.Bool.{false}
 use mathlib.Core.List.{List, _∷_}
 use mathlib.Core.Logic.{_≢_}
 use mathlib.Core.Path.{_≡_, refl, sym, ap, _∙_}
@@ -8,6 +8,8 @@ use native.Mathlib.Numerals.{add-one}
 use native.Mathlib.Omega.{arith, by-contra}
 use lib.ListN.{length, getD, drop, length-drop}
 use lib.Seq.{drop-drop, getD-drop}
+use Rattle.model.specs.Shares.{greatestTotal}
+use Rattle.model.specs.Laws.Tests.{refuted}
 use Rattle.group.specs.Sound as one
 use Rattle.model.specs.Groups.{Group}
 use Rattle.model.specs.Known.{refusedBy}
@@ -21,11 +23,6 @@ use Rattle.works.specs.Tables.{Table, sameTable, units, width}
 use Rattle.works.specs.Laws.Inside.{same-table, table-same, widths-sums, widths-same}
 use Rattle.works.specs.Laws.Passes.{After, first, sound-inside, sound-turn, pass-after}
 use Rattle.works.specs.Laws.Turns.{turn-inside}
-
--- a test that does not hold fails
-fails : (test : Bool) → (test ≡ true → ⊥) → test ≡ false
-fails true never = absurd (never refl)
-fails false never = refl
 
 module _ (flat : List ℕ) (count : ℕ) where
   -- the turns before place are taken, the group after them starts at the number at: what is left of the pass makes it whole
@@ -42,7 +39,7 @@ module _ (flat : List ℕ) (count : ℕ) where
   opening-sound opening = one.sound (opening .sound .valid) (opening .few)
 
   -- their widths add up to at most a total
-  pub width-small : {table : Table} → Opening flat count table → width table ≤ one.greatestTotal
+  pub width-small : {table : Table} → Opening flat count table → width table ≤ greatestTotal
   width-small opening = omega (arith, widths-sums (opening .sound .valid), one.highs-small (opening-sound opening))
 
   -- a pass starts
@@ -205,7 +202,7 @@ module _ (flat : List ℕ) (count : ℕ) where
       pub pass-goes-on : width next ≢ width table → Unsettled opening next (passes + 1)
       unfolding settleFrom
       pass-goes-on moved =
-          let differs : sameTable next table ≡ false = fails (sameTable next table) (λ same. moved (ap (λ (t : Table). width t) (same-table same))) in
+          let differs : sameTable next table ≡ false = refuted (sameTable next table) (λ same. moved (ap (λ (t : Table). width t) (same-table same))) in
           record {
             ready = record { holds = unsettled .ready .holds; few = omega (arith, unsettled .ready .few, after .inside .sameLows); sound = sound-inside (unsettled .ready .sound) (after .valid) (after .inside) };
             sameUnits = after .inside .sameLows ∙ unsettled .sameUnits;

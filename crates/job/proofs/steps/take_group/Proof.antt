@@ -5,12 +5,13 @@ use mathlib.Core.Path.{_≡_, sym, _∙_, ap}
 use lib.ListN.{length, drop, take, length-map}
 use lib.Seq.{sets}
 use borrow.Author.Tests.{not-true, not-false}
+use Rattle.model.specs.Figures.{greatestDeviation, greatestSpread}
 use Rattle.text.specs.Parsed.{mapped, mapped-failed}
 use Rattle.text.specs.Spots.{told}
 use Rattle.job.specs.Form.{group, groupAs}
 use Rattle.text.specs.Numbers.{held}
 use Rattle.groups.specs.Flat.{mostFlat, flatLength}
-use Rattle.job.specs.Job.{add, stepOn, headVerdict, distinct, greatestDeviation, greatestSpread, memberOf, mostMemberships}
+use Rattle.job.specs.Job.{add, stepOn, headVerdict, distinct, memberOf, mostMemberships}
 use Rattle.job.specs.Seen.{groupSeen}
 use Rattle.job.specs.Tally.{groupTally, GroupFacts, group-facts}
 use Rattle.job.specs.Verdicts.{head-good, limit-coded}

@@ -4,9 +4,9 @@ use native.Mathlib.Omega.{arith}
 use Prim.Native.Nat.{_-_, _≤_}
 use mathlib.Core.Path.{refl}
 use lib.ListN.{length}
-use Rattle.works.specs.Laws.Writing.{Filled, filled-none, filled-more, filled-all}
-use Rattle.works.proofs.tables.copy.Statement.{statement}
-use Rattle.works.proofs.tables.copy.Tie as tie
+use Rattle.model.specs.Laws.Writing.{Filled, filled-none, filled-more, filled-all}
+use Rattle.model.proofs.lists.copy.Statement.{statement}
+use Rattle.model.proofs.lists.copy.Tie as tie
 
 abbrev Inv-loop : tie.InvT-loop
 Inv-loop from to₀ i₀ to i = Filled from to₀ to i × (i ≤ length from)

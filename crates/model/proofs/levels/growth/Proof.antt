@@ -1,7 +1,7 @@
 -- A member below its low or at its high takes no copy more. Assumes nothing.
 use borrow.Author.Tests.{lt-leb, le-leb, lt-ltb, le-ltb}
-use Rattle.probe.proofs.pins.growth.Statement.{statement}
-use Rattle.probe.proofs.pins.growth.Tie as tie
+use Rattle.model.proofs.levels.growth.Statement.{statement}
+use Rattle.model.proofs.levels.growth.Tie as tie
 
 returns : tie.Need-returns
 returns c = simp (lt-leb _ _ (c .if1 .taken))
