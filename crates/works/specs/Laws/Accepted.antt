@@ -10,7 +10,8 @@ use borrow.Author.Tests.{eq-eqb, not-true}
 use lib.Dec.{eqb}
 use lib.ListN.{length, getD}
 use Rattle.job.specs.Distinct.{below-at}
-use Rattle.job.specs.Flat.{flatten}
+use Rattle.groups.specs.Flat.{flatten, groupsIn}
+use Rattle.groups.specs.Laws.Reading.{flatten-groups, flatten-holds}
 use Rattle.job.specs.Job.{Job, holds, distinct, accepted, readJob}
 use Rattle.job.specs.Reading.{Scanned, accepted-by, refused-by}
 use Rattle.job.specs.Sound as job
@@ -22,11 +23,9 @@ use Rattle.model.specs.Laws.Tests.{both-left, both-right, clash, either-right}
 use Rattle.model.specs.declared.Refusal.{Refusal}
 use Rattle.works.specs.Calls.{settlement, settleJob, settleText}
 use Rattle.works.specs.Consistency.{SoundGroup, Sound}
-use Rattle.works.specs.Flat.{groupsIn}
 use Rattle.works.specs.Ready.{Prepared}
 use Rattle.works.specs.Tables.{Table, Valid, units}
 use Rattle.works.specs.declared.Settling.the-variants as works
-use Rattle.works.specs.Laws.Flat.{flatten-groups, flatten-holds}
 
 -- a number at a place of a list is found there
 found-at : (x : ℕ) (xs : List ℕ) (k : ℕ) → k < length xs → x ≡ getD xs k 0 → holds x xs ≡ true
