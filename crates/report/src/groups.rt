@@ -29,24 +29,11 @@ fn put_levelled_line(
     requires { ⌜ Room (now buffer) at (levelledLine number (now lows) (now highs) total) ⌝ }
     ensures { λ r. ⌜ Wrote (levelledLine number (now (lows .entry)) (now (highs .entry)) total) (now (buffer .entry)) at (now (buffer .exit)) r ⌝ }
 {
-    let Levelling::Levelled {
-        level,
-        deviation,
-        spread,
-    } = level_core(lows, highs, total, plan)
-    else {
+    let Levelling::Levelled { level, figures } = level_core(lows, highs, total, plan) else {
         return at;
     };
     let count = lows.len();
-    put_group_line(
-        buffer,
-        at,
-        number,
-        level.copies(),
-        deviation,
-        spread,
-        &plan[..count],
-    )
+    put_group_line(buffer, at, number, level.copies(), figures, &plan[..count])
 }
 
 // Gathers the members' ranges and writes the line of their group, and hands back the index after it.

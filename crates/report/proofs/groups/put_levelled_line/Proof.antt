@@ -7,12 +7,11 @@ use mathlib.Core.Path.{_≡_, _∙_}
 use borrow.Author.Tests.{le-leb}
 use lib.ListN.{length, take, drop, length-take}
 use lib.Seq.{take-at}
-use Rattle.model.specs.Figures.{deviation, spread}
+use Rattle.model.specs.Figures.{figuresOf}
 use Rattle.model.specs.Levels.{level, levelled}
-use Rattle.model.specs.declared.Deviation.{Deviation}
+use Rattle.model.specs.declared.Figures.{Figures}
 use Rattle.model.specs.declared.Refusal.{Refusal}
 use Rattle.model.specs.declared.Share.{Share}
-use Rattle.model.specs.declared.Spread.{Spread}
 use Rattle.group.specs.Sound.{HasShares, levelled-length}
 use Rattle.group.specs.Levelling.{levelledTo, planAfter}
 use Rattle.group.specs.declared.Levelling.{Levelling}
@@ -25,10 +24,7 @@ use Rattle.report.proofs.groups.put_levelled_line.Tie as tie
 module _ {lows highs : List ℕ} {total : ℕ} (shares : HasShares lows highs total) where
   -- the answer
   answers : {answer : Levelling} → answer ≡ levelledTo lows highs total
-      → answer ≡ Levelled
-      (record { copies = level lows highs total })
-      (record { 0 = deviation (length lows) total (levelled lows highs total) })
-      (record { 0 = spread (length lows) total (levelled lows highs total) })
+      → answer ≡ Levelled (record { copies = level lows highs total }) (figuresOf (length lows) total (levelled lows highs total))
   unfolding levelledTo
   answers e = e ∙ rw (le-leb _ _ (shares .low), le-leb _ _ (shares .high))
 
@@ -37,19 +33,18 @@ module _ {lows highs : List ℕ} {total : ℕ} (shares : HasShares lows highs to
   never e f = let g = answers e in let z : _≡_ {A = ℕ} 0 1 = cc in omega arith
 
   -- its line is the one defined
-  line-is : (number : ℕ) {answer : Levelling} {v : Share} (d : Deviation) (s : Spread) (copies : ℕ) (plan after : List ℕ)
-      → answer ≡ levelledTo lows highs total → answer ≡ Levelled v d s → copies ≡ v .copies
+  line-is : (number : ℕ) {answer : Levelling} {v : Share} (figures : Figures) (copies : ℕ) (plan after : List ℕ)
+      → answer ≡ levelledTo lows highs total → answer ≡ Levelled v figures → copies ≡ v .copies
       → after ≡ planAfter answer (levelled lows highs total) plan
-      → groupLine number copies d s (take (length lows) after) ≡ levelledLine number lows highs total
+      → groupLine number copies figures (take (length lows) after) ≡ levelledLine number lows highs total
   unfolding levelledLine
-  line-is number d s copies plan after e f is-copies is-after =
+  line-is number figures copies plan after e f is-copies is-after =
       let g = answers e in
       let all : List ℕ = levelled lows highs total in
       let is-level : copies ≡ level lows highs total = cc in
-      let is-deviation : d ≡ record { 0 = deviation (length lows) total all } = cc in
-      let is-spread : s ≡ record { 0 = spread (length lows) total all } = cc in
+      let are-figures : figures ≡ figuresOf (length lows) total all = cc in
       let holds : after ≡ all ++ drop (length all) plan = is-after ∙ rw g in
-      rw (holds, take-at all (drop (length all) plan) (length lows) (levelled-length (shares .sound) total), is-level, is-deviation, is-spread)
+      rw (holds, take-at all (drop (length all) plan) (length lows) (levelled-length (shares .sound) total), is-level, are-figures)
 
 level-core-requires : tie.Need-level-core-requires
 level-core-requires c κs = search needs
@@ -82,7 +77,7 @@ put-group-line-requires c κs =
     let levelling = c .before .before .before .before .before .before .before .before in
     let start = levelling .before .before .before .before .before .before in
     let answer = levelling .level-core .ensures in
-    rw (line-is (start .pre .0) _ _ _ _ _ _ (answer .0) (c .before .before .before .before .level .given .1) (c .before .copies .ensures) (answer .1)) (start .pre .1 .1)
+    rw (line-is (start .pre .0) _ _ _ _ _ (answer .0) (c .before .before .before .before .level .given .1) (c .before .copies .ensures) (answer .1)) (start .pre .1 .1)
 
 same-length-2 : tie.Need-same-length-2
 same-length-2 c = search needs
@@ -96,7 +91,7 @@ returns-2 c =
     let levelling = copied .before .before .before .before .before .before .before in
     let start = levelling .before .before .before .before .before .before in
     let answer = levelling .level-core .ensures in
-    rw (← line-is (start .pre .0) _ _ _ _ _ _ (answer .0) (copied .before .before .before .level .given .1) (copied .copies .ensures) (answer .1))
+    rw (← line-is (start .pre .0) _ _ _ _ _ (answer .0) (copied .before .before .before .level .given .1) (copied .copies .ensures) (answer .1))
     (c .before .before .put-group-line .ensures)
 
 pub put-levelled-line-spec : {M : Type 1} → statement M
