@@ -6,6 +6,7 @@ ghost use Rattle.model.specs.Shares.{checked};
 
 pub mod levels;
 pub mod lists;
+pub mod numbers;
 
 // A group's total is at most this.
 pub const GREATEST_TOTAL: u64 = 256_000_000;
