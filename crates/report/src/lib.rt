@@ -2,7 +2,7 @@
 use model::Refusal;
 
 pub mod calls;
-pub mod groups;
+pub mod group_lines;
 pub mod lines;
 
 // What reporting answers: the length of the report written, and the passes; or no plan, with the refusal's number (11 or 12), its place
