@@ -15,7 +15,8 @@ use Rattle.model.specs.declared.Figures.{Figures}
 use Rattle.text.specs.Words.{bytes}
 use Rattle.group.specs.Bounds.{share-small, squares-small, deviation-small}
 use Rattle.group.specs.Sound.{Sound, HasShares, levelled-length, highs-small}
-use Rattle.job.specs.Job.{mostBytes, memberships}
+use Rattle.groups.specs.Flat.{memberships}
+use Rattle.job.specs.Job.{mostBytes}
 use Rattle.works.specs.Laws.Members.{gather-length}
 use Rattle.works.specs.Tables.{Table, lowsOf, highsOf}
 use Rattle.print.specs.Items.{items, form, line}

@@ -2,16 +2,18 @@
 use crate::lines::put_group_line;
 use group::Levelling;
 use group::level_core;
+use groups::Stored;
+use groups::group_at;
 use works::members::gather;
 ghost use Prim.Native.Nat.{_+_, _≤_};
 ghost use mathlib.Core.List.{flatten};
 ghost use mathlib.Core.Path.{_≡_};
-ghost use lib.ListN.{length, getD};
+ghost use lib.ListN.{length};
 ghost use Rattle.group.specs.Sound.{HasShares};
 ghost use Rattle.print.specs.Written.{Room, Wrote};
 ghost use Rattle.report.specs.Ready.{Levelable, Workspace, Rooms, Printable};
 ghost use Rattle.report.specs.Reports.{levelledLine, lineOf, groupLines};
-ghost use Rattle.works.specs.Flat.{groupAt, groupsIn};
+ghost use Rattle.groups.specs.Flat.{groupIn, groupsIn};
 ghost use Rattle.works.specs.Tables.{Named, gather, tableOf};
 
 // Levels a group and writes its line; the plan is room for its shares. Hands back the index after the line.
@@ -60,33 +62,36 @@ fn put_members_line(
     put_levelled_line(buffer, at, number, member_lows, member_highs, total, plan)
 }
 
-// Writes the line of the group at the start of a flat list, and hands back the index after it.
-fn put_first_line(
+// Writes the line of a group of a flat list, and hands back the index after it.
+fn put_stored_line(
     buffer: &mut [u8],
     at: usize,
     number: u64,
-    group: &[u64],
+    flat: &[u64],
+    group: Stored,
     lows: &[u64],
     highs: &[u64],
     member_lows: &mut [u64],
     member_highs: &mut [u64],
     plan: &mut [u64],
 ) -> usize
-    requires { ⌜ Levelable (tableOf (now lows) (now highs)) (groupAt (now group)) ⌝ }
+    requires { ⌜ Levelable (tableOf (now lows) (now highs)) (groupIn (now flat) group) ⌝ }
     requires { ⌜ length (now highs) ≡ length (now lows) ⌝ }
-    requires { ⌜ 4 + getD (now group) 3 0 ≤ length (now group) ⌝ }
+    requires { ⌜ group .from + group .count ≤ length (now flat) ⌝ }
     requires { ⌜ Workspace (now «member_lows») (now «member_highs») (now plan) ⌝ }
-    requires { ⌜ Room (now buffer) at (lineOf number (tableOf (now lows) (now highs)) (groupAt (now group))) ⌝ }
-    ensures { λ r. ⌜ Wrote (lineOf number (tableOf (now (lows .entry)) (now (highs .entry))) (groupAt (now (group .entry)))) (now (buffer .entry)) at (now (buffer .exit)) r ⌝ }
+    requires { ⌜ Room (now buffer) at (lineOf number (tableOf (now lows) (now highs)) (groupIn (now flat) group)) ⌝ }
+    ensures { λ r. ⌜ Wrote (lineOf number (tableOf (now (lows .entry)) (now (highs .entry))) (groupIn (now (flat .entry)) group)) (now (buffer .entry)) at (now (buffer .exit)) r ⌝ }
 {
-    let count = group[3] as usize;
-    let end = 4 + count;
+    let total = group.total;
+    let from = group.from;
+    let count = group.count;
+    let end = from + count;
     put_members_line(
         buffer,
         at,
         number,
-        &group[4..end],
-        group[0],
+        &flat[from..end],
+        total,
         lows,
         highs,
         &mut member_lows[..count],
@@ -117,18 +122,20 @@ pub fn put_group_lines(
     let mut number: u64 = 0;
     while number < groups {
         number += 1;
-        next = put_first_line(
+        let group = group_at(flat, from);
+        next = put_stored_line(
             buffer,
             next,
             number,
-            &flat[from..],
+            flat,
+            group,
             lows,
             highs,
             member_lows,
             member_highs,
             plan,
         );
-        from += 4 + flat[from + 3] as usize;
+        from = group.next;
     }
     next
 }

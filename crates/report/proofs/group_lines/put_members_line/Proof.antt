@@ -1,8 +1,8 @@
 -- The members' ranges are gathered, and the line is that of the gathered ranges. Assumes nothing.
 use borrow.Author.Needs.{needs}
 use native.Mathlib.Omega.{arith}
-use Rattle.report.proofs.groups.put_members_line.Statement.{statement}
-use Rattle.report.proofs.groups.put_members_line.Tie as tie
+use Rattle.report.proofs.group_lines.put_members_line.Statement.{statement}
+use Rattle.report.proofs.group_lines.put_members_line.Tie as tie
 
 gather-requires : tie.Need-gather-requires
 gather-requires c κs = search needs

@@ -1,23 +1,26 @@
--- The group's numbers are read, and its line is that of its members. Assumes nothing.
+-- The group's members are lent, and its line is that of its members. Assumes nothing.
 use borrow.Author.Needs.{needs}
 use mathlib.Core.List.{List}
 use mathlib.Core.Path.{_≡_, sym}
 use native.Mathlib.Omega.{arith}
 use Prim.Native.Nat.{ℕ, _+_, _-_, _≤_}
-use lib.ListN.{getD, take, drop}
+use lib.ListN.{take, drop}
 use lib.Seq.{length-take-le}
 use Rattle.group.specs.Sound.{greatestCount}
-use Rattle.works.specs.Flat.{groupAt}
+use Rattle.groups.specs.Flat.{groupIn}
+use Rattle.groups.specs.Laws.Reading.{size-stored}
+use Rattle.groups.specs.declared.Stored.{Stored}
 use Rattle.works.specs.Laws.Parts.{part}
+use Rattle.works.specs.Tables.{size}
 use Rattle.report.specs.Printing.{count-few, rooms}
-use Rattle.report.proofs.groups.put_first_line.Statement.{statement}
-use Rattle.report.proofs.groups.put_first_line.Tie as tie
-
-shared-slice-read-count : tie.Need-shared-slice-read-count
-shared-slice-read-count c = search needs
+use Rattle.report.proofs.group_lines.put_stored_line.Statement.{statement}
+use Rattle.report.proofs.group_lines.put_stored_line.Tie as tie
 
 add-end : tie.Need-add-end
 add-end c = search needs
+
+mul-put-members-line : tie.Need-mul-put-members-line
+mul-put-members-line c = search needs
 
 sub-put-members-line : tie.Need-sub-put-members-line
 sub-put-members-line c = search needs
@@ -28,23 +31,28 @@ part-put-members-line-start c = search needs
 part-put-members-line-end : tie.Need-part-put-members-line-end
 part-put-members-line-end c = search needs
 
-shared-slice-read-put-members-line : tie.Need-shared-slice-read-put-members-line
-shared-slice-read-put-members-line c = search needs
-
--- the start, and the group, seen from where its numbers are known
-module _ (c : tie.After-shared-slice-known5) where
+-- the group, seen from where its members are lent
+module _ (c : tie.After-put-members-line-arg2) where
   abbrev start : tie.Start
-  start = c .before .before .before .before .before .before .before .before .before .before .before
+  start = c .before .before .before .before .before .before .before .before .before
 
   abbrev flat : List ℕ
-  flat = start .args .group .now
+  flat = start .args .flat .now
 
-  few : getD flat 3 0 ≤ greatestCount
-  few = count-few flat (start .pre .1 .1 .0) (start .pre .0)
+  abbrev group : Stored
+  group = start .args .group
 
-  -- its members as they are passed on
-  members : take (4 + getD flat 3 0 - 4) (drop 4 flat) ≡ groupAt flat .members
-  members = part 4 (getD flat 3 0) flat
+  -- it has as many members as it says
+  counted : size (groupIn flat group) ≡ group .count
+  counted = size-stored flat group (start .pre .1 .1 .0)
+
+  -- at most 256
+  few : group .count ≤ greatestCount
+  few = omega (arith, counted, count-few (start .pre .0))
+
+  -- they are those passed on
+  members : take (group .from + group .count - group .from) (drop (group .from) flat) ≡ groupIn flat group .members
+  members = part (group .from) (group .count) flat
 
 slice-relend-prefix-put-members-line : tie.Need-slice-relend-prefix-put-members-line
 slice-relend-prefix-put-members-line c = omega (arith, few c, start c .pre .1 .1 .1 .0 .forLows)
@@ -60,10 +68,10 @@ slice-aggregate-put-members-line-2 c = sym (length-take-le _ _ (slice-relend-pre
 
 put-members-line-requires : tie.Need-put-members-line-requires
 put-members-line-requires c κs =
-    let known = c .before .before .before in
-    let pre = start known .pre in
-    let space = rooms (flat known) (pre .1 .1 .0) (pre .0) (pre .1 .1 .1 .0) (members known) in
-    (rw (members known) (pre .0 .named, rw (pre .1 .0) (pre .0 .named)), (rw (members known) (pre .0 .shares), (space, rw (members known) (pre .1 .1 .1 .1))))
+    let lent = c .before .before .before in
+    let pre = start lent .pre in
+    let space = rooms (pre .0) (pre .1 .1 .1 .0) (members lent) (counted lent) in
+    (rw (members lent) (pre .0 .named, rw (pre .1 .0) (pre .0 .named)), (rw (members lent) (pre .0 .shares), (space, rw (members lent) (pre .1 .1 .1 .1))))
 
 same-length : tie.Need-same-length
 same-length c = search needs
@@ -78,18 +86,19 @@ same-length-4 : tie.Need-same-length-4
 same-length-4 c = search needs
 
 returns : tie.Need-returns
-returns c = rw (members (c .before .before .before .before .before .before .before .before .before .before .before .before)) at (c .before .before .before .before .before .before .before .before .put-members-line .ensures)
+returns c =
+    let call = c .before .before .before .before .before .before .before .before in
+    rw (members (call .before .before .before .before)) at (call .put-members-line .ensures)
 
-pub put-first-line-spec : {M : Type 1} → statement M
-put-first-line-spec =
+pub put-stored-line-spec : {M : Type 1} → statement M
+put-stored-line-spec =
     tie.close
     (tie.spec
-    shared-slice-read-count
     add-end
+    mul-put-members-line
     sub-put-members-line
     part-put-members-line-start
     part-put-members-line-end
-    shared-slice-read-put-members-line
     slice-relend-prefix-put-members-line
     slice-aggregate-put-members-line
     slice-relend-prefix-put-members-line-2

@@ -18,8 +18,8 @@ use Rattle.group.specs.declared.Levelling.{Levelling}
 use Rattle.group.specs.declared.Levelling.the-variants.{Levelled, Refused}
 use Rattle.report.specs.Lines.{groupLine}
 use Rattle.report.specs.Reports.{levelledLine}
-use Rattle.report.proofs.groups.put_levelled_line.Statement.{statement}
-use Rattle.report.proofs.groups.put_levelled_line.Tie as tie
+use Rattle.report.proofs.group_lines.put_levelled_line.Statement.{statement}
+use Rattle.report.proofs.group_lines.put_levelled_line.Tie as tie
 
 module _ {lows highs : List ℕ} {total : ℕ} (shares : HasShares lows highs total) where
   -- the answer
