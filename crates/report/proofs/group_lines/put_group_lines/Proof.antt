@@ -71,7 +71,9 @@ put-stored-line-requires : tie.Need-put-stored-line-requires Inv-loop μ-loop
 put-stored-line-requires c κs =
     let g = c .before .before .before .before in
     let some = turn g .loop-test .taken in
-    (next-levelable _ _ _ _ _ (printing g) some (read g), (start (turn g) .pre .0 .paired, (coming _ _ _ _ _ (printing g) some (read g) .within, (space (turn g), room-next (next-rest _ _ _ _ _ (printing g) some (read g))))))
+    let fits = room-next (next-rest _ _ _ _ _ (printing g) some (read g)) in
+    let within = coming _ _ _ _ _ (printing g) some (read g) .within in
+    (next-levelable _ _ _ _ _ (printing g) some (read g), (start (turn g) .pre .0 .paired, (within, (space (turn g), fits))))
 
 loop-less : tie.Need-loop-less Inv-loop μ-loop
 loop-less c = search needs

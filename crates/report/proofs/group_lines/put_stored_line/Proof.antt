@@ -70,8 +70,10 @@ put-members-line-requires : tie.Need-put-members-line-requires
 put-members-line-requires c κs =
     let lent = c .before .before .before in
     let pre = start lent .pre in
-    let space = rooms (pre .0) (pre .1 .1 .1 .0) (members lent) (counted lent) in
-    (rw (members lent) (pre .0 .named, rw (pre .1 .0) (pre .0 .named)), (rw (members lent) (pre .0 .shares), (space, rw (members lent) (pre .1 .1 .1 .1))))
+    let space = rooms (pre .0) (pre .1 .1 .1 .0) (members lent) (counted lent) in (
+      rw (members lent) (pre .0 .named, rw (pre .1 .0) (pre .0 .named)),
+      (rw (members lent) (pre .0 .shares), (space, rw (members lent) (pre .1 .1 .1 .1))),
+    )
 
 same-length : tie.Need-same-length
 same-length c = search needs

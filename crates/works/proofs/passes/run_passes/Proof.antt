@@ -139,7 +139,9 @@ take-turn-requires c κs =
     )
 
 add-place : tie.Need-add-place Inv-loop μ-loop Inv-passes μ-passes
-add-place c = let turn = c .before .before .before .before .before .before .before .before .before .before .before .before .before .before in omega (arith, turn .loop-test .taken, start (pass turn) .fits .groups)
+add-place c =
+    let turn = c .before .before .before .before .before .before .before .before .before .before .before .before .before .before in
+    omega (arith, turn .loop-test .taken, start (pass turn) .fits .groups)
 
 enum-told : tie.Need-enum-told Inv-loop μ-loop Inv-passes μ-passes
 enum-told c = search needs
@@ -217,7 +219,8 @@ returns-2 c =
     let g = call .before .before .before .before .before in
     refused-answer
     (pass-refused _ _ (unsettled (pass (turn g)))
-    (next-stops _ _ (passing g) (turn g .loop-test .taken) (read g) (call .take-turn .result) _ (call .take-turn .ensures) (c .before .enum-told2 .given .1) (c .number-of .ensures)))
+    (next-stops _ _ (passing g) (turn g .loop-test .taken) (read g) (call .take-turn .result) _ (call .take-turn .ensures)
+    (c .before .enum-told2 .given .1) (c .number-of .ensures)))
     _
 
 pub run-passes-spec : {M : Type 1} → statement M
