@@ -7,7 +7,8 @@ use mathlib.Core.Path.{_≡_, refl}
 use native.Mathlib.Omega.{arith}
 use lib.Dec.{leb}
 use lib.ListN.{length}
-use Rattle.model.specs.Figures.{deviation, spread}
+use Rattle.model.specs.Shares.{greatestTotal}
+use Rattle.model.specs.Figures.{figuresOf}
 use Rattle.model.specs.Levels.{level, levelled}
 use Rattle.model.specs.Plans.{hasShares, turnOf}
 use Rattle.model.specs.Laws.Tests.{clash}
@@ -18,7 +19,6 @@ use Rattle.model.specs.declared.Turn.{Turn}
 use Rattle.group.specs.Checks.{amountsWithin, checkLists}
 use Rattle.group.specs.Levelling.{levelledTo, levelling}
 use Rattle.group.specs.Narrowing.{narrowing}
-use Rattle.group.specs.Sound.{greatestTotal}
 use Rattle.group.specs.declared.Check.{Check}
 use Rattle.group.specs.declared.Check.the-variants.{Passed, Failed}
 use Rattle.group.specs.declared.Levelling.{Levelling}
@@ -42,9 +42,7 @@ pub data LevelFinding (lows highs : List ℕ) (total room : ℕ) : Levelling →
   -- such shares exist: the level, and the figures of the levelled shares
   answered : LevelChecks lows highs total room Passed → Shares lows highs total
       → LevelFinding lows highs total room
-      (level.Levelled (record { copies = level lows highs total })
-      (record { 0 = deviation (length lows) total (levelled lows highs total) })
-      (record { 0 = spread (length lows) total (levelled lows highs total) }))
+      (level.Levelled (record { copies = level lows highs total }) (figuresOf (length lows) total (levelled lows highs total)))
 
 module _ (lows highs : List ℕ) (total room : ℕ) where
   -- the checks say what their words say

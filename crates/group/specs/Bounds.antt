@@ -5,14 +5,14 @@ use mathlib.Core.Path.{_≡_}
 use native.Mathlib.Nat.{mul-le-mul}
 use native.Mathlib.Omega.{arith}
 use lib.ListN.{length, getD}
-use Rattle.model.specs.Shares.{Within, greatestShare, sum, sumOf}
+use Rattle.model.specs.Shares.{Within, greatestShare, sum, sumOf, greatestTotal}
 use Rattle.model.specs.Figures.{apart, deviation}
 use Rattle.model.specs.Levels.{clamp, growth}
 use Rattle.model.specs.Laws.Lists.{within-at, within-length, ranges-at}
 use Rattle.model.specs.Laws.Level.{growth-step, clamp-at-most}
 use Rattle.model.specs.Laws.Levelled.{within-sum-high}
 use Rattle.model.specs.Laws.Spread.{sumOf-bound}
-use Rattle.group.specs.Sound.{Sound, greatestCount, greatestTotal, highs-small}
+use Rattle.group.specs.Sound.{Sound, greatestCount, highs-small}
 
 -- a share with the copy that it takes is at most the range's high
 extra-at-most : (l h v left : ℕ) → l ≤ h → clamp l h v + min left (growth l h v) ≤ h

@@ -4,11 +4,10 @@ use mathlib.Core.Bool.{Bool, true, false, not, _&&_}
 use mathlib.Core.List.{List, [], _∷_}
 use lib.Dec.{leb, ltb, eqb}
 use lib.ListN.{length}
-use Rattle.model.specs.Shares.{pick, greatestShare}
-use Rattle.model.specs.declared.Limit.{Limit}
-use Rattle.model.specs.declared.Limit.the-variants.{Any, AtMost}
+use Rattle.model.specs.Shares.{pick, greatestShare, greatestTotal}
+use Rattle.model.specs.Figures.{greatestDeviation, greatestSpread, limitWithin}
 use Rattle.model.specs.declared.Limits.{Limits}
-use Rattle.group.specs.Sound.{greatestCount, greatestTotal}
+use Rattle.group.specs.Sound.{greatestCount}
 use Rattle.group.specs.declared.Check.{Check}
 use Rattle.group.specs.declared.Check.the-variants.{Passed, Failed}
 
@@ -33,18 +32,6 @@ firstCrossed lows highs = firstFailing leb 1 lows highs
 -- 01, 1: lows and highs not empty, of one length, and not over 256, with room for as many numbers
 abbrev pub sized : ℕ → ℕ → ℕ → Bool
 sized count other room = leb 1 count && (eqb count other && (leb count greatestCount && leb count room))
-
--- 01: "the deviation limit 0 to 100,000,000,000, the spread limit 0 to 100,000,000,000,000,000"
-abbrev pub greatestDeviation : ℕ
-greatestDeviation = 100_000_000_000
-
-abbrev pub greatestSpread : ℕ
-greatestSpread = 100_000_000_000_000_000
-
--- a limit is any, or a number in its range
-abbrev pub limitWithin : Limit → ℕ → Bool
-limitWithin Any greatest = true
-limitWithin (AtMost most) greatest = leb most greatest
 
 -- 01, 4 for total and limits: each is in its range
 abbrev pub amountsWithin : ℕ → Limits → Bool

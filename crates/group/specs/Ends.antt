@@ -7,7 +7,7 @@ use mathlib.Core.Path.{_≡_, sym, ap, _∙_}
 use native.Mathlib.Omega.{arith}
 use lib.ListN.{length, getD}
 use Rattle.model.specs.Shares.{Within, greatestShare}
-use Rattle.model.specs.Figures.{deviation, spread}
+use Rattle.model.specs.Figures.{met}
 use Rattle.model.specs.Levels.{topped}
 use Rattle.model.specs.Plans.{Plan, taken, narrowedLow, narrowedHigh}
 use Rattle.model.specs.Laws.Ends.{low-unique, high-unique}
@@ -16,9 +16,8 @@ use Rattle.model.specs.Laws.Lists.{ranges-at, within-at, within-length}
 use Rattle.model.specs.Laws.Pinned.{plan-taken}
 use Rattle.model.specs.Laws.Plans.{found-plan}
 use Rattle.model.specs.Laws.Tests.{clash}
-use Rattle.model.specs.Laws.Transfer.{deviation-schur, spread-schur}
 use Rattle.model.specs.declared.Limits.{Limits}
-use Rattle.probe.specs.Pins.{Reached, reached-adds, reached-figure}
+use Rattle.probe.specs.Pins.{Reached, reached-adds, reached-figures}
 use Rattle.group.specs.Tabled.{Tabled, HasPlan}
 use Rattle.group.specs.Edges.{Edge, Reach, Approach, Planned}
 
@@ -33,10 +32,7 @@ levelled-planned {lows} {highs} {total} {limits} has {m} {c} {w} {r} reached i b
     let plan : Plan lows highs total limits (topped lows highs w r) = record {
       within = within;
       adds = reached-adds (has .sound .ranges) reached;
-      meets = rw (
-        reached-figure (has .sound .ranges) reached (deviation (length lows) total) (deviation-schur (length lows) total),
-        reached-figure (has .sound .ranges) reached (spread (length lows) total) (spread-schur (length lows) total),
-      ) at (found .meets);
+      meets = ap (met limits) (sym (reached-figures (has .sound .ranges) reached (length lows))) ∙ found .meets;
     } in
     record {
       has = has;

@@ -5,19 +5,17 @@ use mathlib.Core.Path.{_≡_}
 use mathlib.Core.List.{List, _++_}
 use lib.Dec.{leb}
 use lib.ListN.{length, drop}
-use Rattle.model.specs.Shares.{pick}
+use Rattle.model.specs.Shares.{pick, greatestTotal}
+use Rattle.model.specs.declared.Figures.{Figures}
 use Rattle.model.specs.declared.Share.{Share}
 use Rattle.model.specs.declared.Checked.{Checked}
 use Rattle.model.specs.declared.Checked.the-variants.{Valid}
-use Rattle.model.specs.Figures.{deviation, spread}
+use Rattle.model.specs.Figures.{figuresOf}
 use Rattle.model.specs.Levels.{level, levelled}
 use Rattle.model.specs.Plans.{hasShares}
-use Rattle.group.specs.Sound.{greatestTotal}
 use Rattle.group.specs.Checks.{checkLists}
 use Rattle.group.specs.declared.Check.{Check}
 use Rattle.group.specs.declared.Check.the-variants.{Passed, Failed}
-use Rattle.group.specs.Figures.{figuresOf}
-use Rattle.group.specs.declared.Figures.{Figures}
 use Rattle.group.specs.declared.Levelling.{Levelling}
 use Rattle.group.specs.declared.Levelling.the-variants.{Levelled, Refused}
 
@@ -25,10 +23,7 @@ use Rattle.group.specs.declared.Levelling.the-variants.{Levelled, Refuse
 unfoldable pub levelledTo : List ℕ → List ℕ → ℕ → Levelling
 levelledTo lows highs total =
     pick (hasShares lows highs total)
-    (Levelled
-    (record { copies = level lows highs total })
-    (record { 0 = deviation (length lows) total (levelled lows highs total) })
-    (record { 0 = spread (length lows) total (levelled lows highs total) }))
+    (Levelled (record { copies = level lows highs total }) (figuresOf (length lows) total (levelled lows highs total)))
     (Refused (record { number = 11; place = 0 }))
 
 abbrev pub afterCheck : Check → Levelling → Levelling
@@ -41,14 +36,14 @@ levelling lows highs total room = afterCheck (checkLists lows highs room (leb to
 
 -- 01: the shares are written to the plan list; numbers past the members, and on a refusal all of them, keep their values
 abbrev pub planAfter : Levelling → List ℕ → List ℕ → List ℕ
-planAfter (Levelled v d s) shares plan = shares ++ drop (length shares) plan
+planAfter (Levelled v figures) shares plan = shares ++ drop (length shares) plan
 planAfter (Refused refusal) shares plan = plan
 
 -- the answer where shares exist
 pub levelled-answer : (lows highs : List ℕ) (total v : ℕ) (answer : Checked) (share : Share) (figures : Figures)
     → hasShares lows highs total ≡ true → v ≡ level lows highs total → answer ≡ Valid (record { copies = v }) → answer ≡ Valid share
     → figures ≡ figuresOf (length lows) total (levelled lows highs total)
-    → Levelled share (figures .deviation) (figures .spread) ≡ levelledTo lows highs total
+    → Levelled share figures ≡ levelledTo lows highs total
 unfolding levelledTo
 levelled-answer lows highs total v answer share figures exist is-level valid is-valid is-figures =
     let is-share : share ≡ record { copies = v } = cc in

@@ -1,6 +1,5 @@
 pub mod Sound
 pub mod Bounds
-pub mod Figures
 pub mod Checks
 pub mod First
 pub mod Findings

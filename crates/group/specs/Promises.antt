@@ -6,7 +6,7 @@ use mathlib.Core.Path.{_≡_, refl}
 use lib.ListN.{length, getD, take, drop}
 use lib.Seq.{take-at, drop-at}
 use Rattle.model.specs.Shares.{greatestShare, Ranges, Within, sum}
-use Rattle.model.specs.Figures.{deviation, spread, above}
+use Rattle.model.specs.Figures.{deviation, spread, above, figuresOf}
 use Rattle.model.specs.Levels.{totalAt, levelled}
 use Rattle.model.specs.Plans.{narrowedLows, narrowedHighs}
 use Rattle.model.specs.Laws.Keeping.{Inside, narrowed-between, between-ranges}
@@ -14,11 +14,10 @@ use Rattle.model.specs.Laws.Level.{totalAt-least, level-share, level-holds, lev
 use Rattle.model.specs.Laws.Levelled.{shares-exist, levelled-within, levelled-adds}
 use Rattle.model.specs.Laws.Narrowing.{Taken, kept-taken, taken-kept, narrowedLows-at, narrowedHighs-at}
 use Rattle.model.specs.Laws.Plans.{least-deviation, least-spread, least-above, plan-found}
-use Rattle.model.specs.declared.Deviation.{Deviation}
+use Rattle.model.specs.declared.Figures.{Figures}
 use Rattle.model.specs.declared.Limits.{Limits}
 use Rattle.model.specs.declared.Refusal.{Refusal}
 use Rattle.model.specs.declared.Share.{Share}
-use Rattle.model.specs.declared.Spread.{Spread}
 use Rattle.group.specs.Levelling.{levelling, planAfter}
 use Rattle.group.specs.Narrowing.{narrowing, listAfter}
 use Rattle.group.specs.Sound.{levelled-length}
@@ -42,14 +41,13 @@ pub record LeastShares (lows highs : List ℕ) (total : ℕ) (shares : List ℕ)
   pub leastSpread : (xs : List ℕ) → Within lows highs xs → sum xs ≡ total → spread (length lows) total shares ≤ spread (length lows) total xs
   pub leastAbove : (xs : List ℕ) → Within lows highs xs → sum xs ≡ total → (t : ℕ) → above t shares ≤ above t xs
 
--- what levelling promises where it answers level v, deviation d and spread s: the plan list begins with least shares, whose figures these are,
+-- what levelling promises where it answers level v and these figures: the plan list begins with least shares, whose figures they are,
 -- and keeps its numbers past the members
-pub record LevelPromise (lows highs : List ℕ) (total v d s : ℕ) (before after : List ℕ) : Type 0 where
+pub record LevelPromise (lows highs : List ℕ) (total v : ℕ) (answered : Figures) (before after : List ℕ) : Type 0 where
   pub least : LeastShares lows highs total (take (length lows) after)
   pub past : drop (length lows) after ≡ drop (length lows) before
   pub level : GreatestLevel lows highs total v
-  pub deviation : d ≡ deviation (length lows) total (take (length lows) after)
-  pub spread : s ≡ spread (length lows) total (take (length lows) after)
+  pub figures : answered ≡ figuresOf (length lows) total (take (length lows) after)
 
 module _ (lows highs : List ℕ) (total : ℕ) (plan : List ℕ) where
   -- the plan list after levelling
@@ -57,8 +55,8 @@ module _ (lows highs : List ℕ) (total : ℕ) (plan : List ℕ) where
   planLeft = planAfter (levelling lows highs total (length plan)) (levelled lows highs total) plan
 
   -- where shares exist, the levelled ones are least
-  levelled-kept : {v : Share} {d : Deviation} {s : Spread} → LevelFinding lows highs total (length plan) (level.Levelled v d s)
-      → LevelPromise lows highs total (v .copies) (d .0) (s .0) plan
+  levelled-kept : {v : Share} {figures : Figures} → LevelFinding lows highs total (length plan) (level.Levelled v figures)
+      → LevelPromise lows highs total (v .copies) figures plan
       (levelled lows highs total ++ drop (length (levelled lows highs total)) plan)
   levelled-kept (LevelFinding.answered clear some) =
       let sound = passed-sound clear .0 in
@@ -81,13 +79,12 @@ module _ (lows highs : List ℕ) (total : ℕ) (plan : List ℕ) where
           fits = level-holds lows highs total (rw (totalAt-least ranges) (between .0));
           greatest = level-greatest lows highs total;
         };
-        deviation = rw first;
-        spread = rw first;
+        figures = rw first;
       }
 
   -- 01, demand 2, for levelling
-  pub level-promised : {v : Share} {d : Deviation} {s : Spread} → levelling lows highs total (length plan) ≡ level.Levelled v d s
-      → LevelPromise lows highs total (v .copies) (d .0) (s .0) plan planLeft
+  pub level-promised : {v : Share} {figures : Figures} → levelling lows highs total (length plan) ≡ level.Levelled v figures
+      → LevelPromise lows highs total (v .copies) figures plan planLeft
   level-promised is = rw is (levelled-kept (level-exactly lows highs total (length plan) _ .0 is))
 
   -- refused, it leaves the plan list as it was

@@ -7,7 +7,7 @@ use mathlib.Core.List.{List}
 use mathlib.Core.Path.{_≡_, sym}
 use native.Mathlib.Omega.{arith}
 use lib.ListN.{length}
-use Rattle.model.specs.Shares.{Ranges, greatestShare, sum}
+use Rattle.model.specs.Shares.{Ranges, greatestShare, greatestTotal, sum}
 use Rattle.model.specs.Levels.{totalAt, clamped, level, topped, remainder, levelled}
 use Rattle.model.specs.Plans.{hasShares}
 use Rattle.model.specs.Laws.Tests.{both, both-left, both-right}
@@ -18,10 +18,6 @@ use Rattle.model.specs.Laws.Level.{totalAt-cons, totalAt-least, totalAt-greates
 -- 01: a group names at most 256 units; one of no units is allowed here
 abbrev pub greatestCount : ℕ
 greatestCount = 256
-
--- 01: "a total S (0 to 256,000,000)"
-abbrev pub greatestTotal : ℕ
-greatestTotal = 256_000_000
 
 -- ranges of at most 256 members; the total is any number, while probe's Sound bounds it too
 pub record Sound (lows highs : List ℕ) : Type 0 where

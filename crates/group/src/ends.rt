@@ -1,6 +1,6 @@
 // The ends of a member's range: how far from its share plans give it values.
-use crate::plans::apart;
 use model::Limits;
+use model::numbers::apart;
 use probe::pins::into_reach;
 use probe::pins::last_within;
 use probe::pins::value_at;

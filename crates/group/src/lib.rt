@@ -8,11 +8,11 @@ use crate::shares::fill_plan;
 use crate::shares::level_at;
 use crate::shares::remainder_at;
 use model::Checked;
-use model::Deviation;
+use model::Figures;
+use model::GREATEST_TOTAL;
 use model::Limits;
 use model::Refusal;
 use model::Share;
-use model::Spread;
 use model::Turn;
 ghost use mathlib.Core.Path.{_≡_};
 ghost use Prim.Native.Nat.{_≤_};
@@ -32,21 +32,6 @@ pub mod shares;
 // A group has at most so many members.
 pub const GREATEST_COUNT: usize = 256;
 
-// A group's total is at most this.
-pub const GREATEST_TOTAL: u64 = 256_000_000;
-
-// A deviation limit is at most this.
-pub const GREATEST_DEVIATION: u64 = 100_000_000_000;
-
-// A spread limit is at most this.
-pub const GREATEST_SPREAD: u64 = 100_000_000_000_000_000;
-
-// Both figures of a group's shares.
-pub struct Figures {
-    pub deviation: Deviation,
-    pub spread: Spread,
-}
-
 // What the checks on a group's lists answer.
 pub enum Check {
     Passed,
@@ -55,11 +40,7 @@ pub enum Check {
 
 // What levelling a group answers.
 pub enum Levelling {
-    Levelled {
-        level: Share,
-        deviation: Deviation,
-        spread: Spread,
-    },
+    Levelled { level: Share, figures: Figures },
     Refused(Refusal),
 }
 
@@ -91,14 +72,8 @@ pub fn level_core(lows: &[u64], highs: &[u64], total: u64, plan: &mut [u64]) -> 
     };
     let left = remainder_at(lows, highs, total, v);
     let figures = figures_at(lows, highs, v, left, total);
-    let deviation = figures.deviation;
-    let spread = figures.spread;
     fill_plan(lows, highs, v, left, plan);
-    Levelling::Levelled {
-        level,
-        deviation,
-        spread,
-    }
+    Levelling::Levelled { level, figures }
 }
 
 // Levels a group on lists.

@@ -1,13 +1,14 @@
 // The level of a group and its levelled shares, from the ranges alone.
 use model::Share;
-use probe::pins::clamp;
+use model::levels::clamp;
+use model::levels::growth;
 ghost use mathlib.Core.Path.{_≡_};
 ghost use Prim.Native.Nat.{_+_, _≤_, min};
 ghost use mathlib.Core.List.{_++_};
 ghost use lib.ListN.{length, drop};
-ghost use Rattle.model.specs.Shares.{sum};
+ghost use Rattle.model.specs.Shares.{sum, greatestTotal};
 ghost use Rattle.model.specs.Levels.{growth, totalAt, level, remainder, topped};
-ghost use Rattle.group.specs.Sound.{Sound, HasShares, greatestTotal};
+ghost use Rattle.group.specs.Sound.{Sound, HasShares};
 
 // The smaller of two numbers.
 pub(crate) fn smaller(a: u64, b: u64) -> u64
@@ -23,13 +24,7 @@ pub(crate) fn smaller(a: u64, b: u64) -> u64
 pub fn extra(low: u64, high: u64, v: u64, left: u64) -> u64
     ensures { λ r. ⌜ r ≡ min left (growth low high v) ⌝ }
 {
-    if v < low {
-        return 0;
-    }
-    if high <= v {
-        return 0;
-    }
-    smaller(left, 1)
+    smaller(left, growth(low, high, v))
 }
 
 // The sum of the numbers.

@@ -1,6 +1,6 @@
 -- Numbers are distinct, by marks: each is marked when it is met, and none is met marked. Assumes nothing.
 use Prim.Native.Nat.{ℕ, zero, suc, _+_, _-_, _≤_, _<_}
-use mathlib.Core.Bool.{Bool, true, false, not, _&&_}
+use mathlib.Core.Bool.{Bool, true, not, _&&_}
 use mathlib.Core.List.{List, [], _∷_, map}
 use mathlib.Core.Path.{_≡_, refl, sym, _∙_}
 use native.Mathlib.Omega.{arith}
@@ -10,7 +10,7 @@ use lib.Dec.{eqb, leb}
 use lib.ListN.{length, getD, set, drop, replicate, length-set, length-replicate, getD-replicate}
 use native.Mathlib.Numerals.{add-one}
 use lib.Seq.{getD-set-same, getD-set-other, drop-cons}
-use Rattle.text.specs.Tests.{and-left, and-right}
+use Rattle.model.specs.Laws.Tests.{both-left, both-right, and-exchanged, and-regrouped}
 use Rattle.job.specs.Job.{named, allNamed, holds, distinct, memberOf}
 
 -- every number of the list is below
@@ -28,17 +28,6 @@ unfoldable unmarked : List ℕ → List ℕ → Bool
 unmarked marks [] = true
 unmarked marks (x ∷ xs) = eqb (getD marks x 0) 0 && unmarked marks xs
 
-exchanged : (a n u : Bool) → a && (n && u) ≡ n && (a && u)
-exchanged true n u = refl
-exchanged false true u = refl
-exchanged false false u = refl
-
-regrouped : (a n u d : Bool) → a && (n && u && d) ≡ a && u && (n && d)
-regrouped false n u d = refl
-regrouped true true u d = refl
-regrouped true false true d = refl
-regrouped true false false d = refl
-
 -- marking one more number
 marked : (marks xs : List ℕ) (x : ℕ) → x < length marks → unmarked (set marks x 1) xs ≡ not (holds x xs) && unmarked marks xs
 unfolding unmarked holds
@@ -48,7 +37,7 @@ marked marks (y ∷ ys) x h =
       | yes p ↦ rw (← p, getD-set-same marks x 1 0 h, eq-eqb x x refl)
       | no p ↦
           rw (getD-set-other marks x y 1 0 (λ e. p (sym e)), ne-eqb x y p, marked marks ys x h)
-          (exchanged (eqb (getD marks y 0) 0) (not (holds x ys)) (unmarked marks ys))
+          (and-exchanged (eqb (getD marks y 0) 0) (not (holds x ys)) (unmarked marks ys))
     ]
 
 fresh-distinct : (marks xs : List ℕ) → AllBelow (length marks) xs → freshBy marks xs ≡ unmarked marks xs && distinct xs
@@ -56,7 +45,7 @@ unfolding freshBy unmarked distinct AllBelow
 fresh-distinct marks [] b = refl
 fresh-distinct marks (x ∷ xs) b =
     rw (fresh-distinct (set marks x 1) xs (rw (length-set marks x 1) (b .1)), marked marks xs x (b .0))
-    (regrouped (eqb (getD marks x 0) 0) (not (holds x xs)) (unmarked marks xs) (distinct xs))
+    (and-regrouped (eqb (getD marks x 0) 0) (not (holds x xs)) (unmarked marks xs) (distinct xs))
 
 no-marks : (n : ℕ) (xs : List ℕ) → AllBelow n xs → unmarked (replicate n 0) xs ≡ true
 unfolding unmarked AllBelow
@@ -71,8 +60,8 @@ holds-members : (units m : ℕ) (ms : List ℕ) → 1 ≤ m → allNamed units m
 unfolding holds allNamed
 holds-members units m [] l h = refl
 holds-members units m (k ∷ ks) l h =
-    let n = leb-true 1 k (and-left (leb 1 k) (leb k units) (and-left (named units k) (allNamed units ks) h)) in
-    let again = holds-members units m ks l (and-right (named units k) (allNamed units ks) h) in
+    let n = leb-true 1 k (both-left (leb 1 k) (leb k units) (both-left (named units k) (allNamed units ks) h)) in
+    let again = holds-members units m ks l (both-right (named units k) (allNamed units ks) h) in
     elim (ℕ-discrete m k)
     [ yes p ↦ rw (p, eq-eqb (k - 1) (k - 1) refl, eq-eqb k k refl) | no p ↦ rw (ne-eqb m k p, ne-eqb (m - 1) (k - 1) (λ e. p (omega arith))) again ]
 
@@ -81,8 +70,8 @@ pub distinct-members : (units : ℕ) (ms : List ℕ) → allNamed units ms ≡ t
 unfolding allNamed distinct
 distinct-members units [] h = refl
 distinct-members units (m ∷ ms) h =
-    let n = leb-true 1 m (and-left (leb 1 m) (leb m units) (and-left (named units m) (allNamed units ms) h)) in
-    let rest = and-right (named units m) (allNamed units ms) h in
+    let n = leb-true 1 m (both-left (leb 1 m) (leb m units) (both-left (named units m) (allNamed units ms) h)) in
+    let rest = both-right (named units m) (allNamed units ms) h in
     rw (holds-members units m ms n rest, distinct-members units ms rest)
 
 -- and below the count
@@ -90,10 +79,10 @@ pub members-below : (units n : ℕ) (ms : List ℕ) → units ≤ n → allNamed
 unfolding allNamed AllBelow
 members-below units n [] l h = tt
 members-below units n (m ∷ ms) l h =
-    let t = and-left (named units m) (allNamed units ms) h in
-    let one = leb-true 1 m (and-left (leb 1 m) (leb m units) t) in
-    let k = leb-true m units (and-right (leb 1 m) (leb m units) t) in
-    (omega arith, members-below units n ms l (and-right (named units m) (allNamed units ms) h))
+    let t = both-left (named units m) (allNamed units ms) h in
+    let one = leb-true 1 m (both-left (leb 1 m) (leb m units) t) in
+    let k = leb-true m units (both-right (leb 1 m) (leb m units) t) in
+    (omega arith, members-below units n ms l (both-right (named units m) (allNamed units ms) h))
 
 -- a number of the list is below
 pub below-at : (n : ℕ) (xs : List ℕ) (i : ℕ) → AllBelow n xs → i < length xs → getD xs i 0 < n

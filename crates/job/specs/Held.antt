@@ -8,7 +8,8 @@ use native.Mathlib.Decide.{decLe}
 use borrow.Author.Tests.{le-leb, lt-leb, leb-true}
 use lib.Dec.{leb}
 use lib.ListN.{length, length-map}
-use Rattle.model.specs.Shares.{greatestShare}
+use Rattle.model.specs.Figures.{greatestDeviation, greatestSpread, limitWithin}
+use Rattle.model.specs.Shares.{greatestShare, greatestTotal}
 use Rattle.model.specs.declared.Limit.{Limit}
 use Rattle.model.specs.declared.Limit.the-variants.{Any, AtMost}
 use Rattle.model.specs.declared.Limits.{Limits}
@@ -16,8 +17,9 @@ use Rattle.text.specs.Parsed.{Parsed, parsed, failed, andThen, mapped, orElse, 
 use Rattle.text.specs.Numbers.{numberAfter, held, most}
 use Rattle.job.specs.declared.lines.Head.{Head}
 use Rattle.job.specs.Form.{UnitLine, GroupLine, Line, unit, group, unitOpening, space, unitEnding, groupOpening, deviationOpening, spreadOpening, membersOpening, groupEnding, anyWord, numberAs, limitAs, unitAs, membersAs, headAs, grouped, groupAs, lineAs, line}
-use Rattle.job.specs.Job.{Job, unitVerdict, headVerdict, membersVerdict, verdict, named, allNamed, add, stepOn, judged, memberships, greatestTotal, greatestDeviation, greatestSpread, limitUpTo, unless, distinct, first}
-use Rattle.text.specs.Tests.{and-left, and-right}
+use Rattle.groups.specs.Flat.{memberships}
+use Rattle.job.specs.Job.{Job, unitVerdict, headVerdict, membersVerdict, verdict, named, allNamed, add, stepOn, judged, unless, distinct, first}
+use Rattle.model.specs.Laws.Tests.{both-left, both-right}
 use Rattle.job.specs.Verdicts.{unit-good, head-good, members-good, first-zero}
 
 abbrev limitBy : (ℕ → ℕ) → Limit → Limit
@@ -128,15 +130,15 @@ named-held : (units : ℕ) (ms : List ℕ) → units < most → allNamed units m
 unfolding allNamed
 named-held units [] h e = refl
 named-held units (m ∷ ms) h e =
-    let n = leb-true m units (and-right (leb 1 m) (leb m units) (and-left (named units m) (allNamed units ms) e)) in
+    let n = leb-true m units (both-right (leb 1 m) (leb m units) (both-left (named units m) (allNamed units ms) e)) in
     let k : held m ≡ m = omega arith in
-    rw (k, named-held units ms h (and-right (named units m) (allNamed units ms) e))
+    rw (k, named-held units ms h (both-right (named units m) (allNamed units ms) e))
 
-limit-held : (most′ : ℕ) (l : Limit) → most′ < most → limitUpTo most′ (limitBy held l) ≡ limitUpTo most′ l
+limit-held : (most′ : ℕ) (l : Limit) → most′ < most → limitWithin (limitBy held l) most′ ≡ limitWithin l most′
 limit-held most′ Any h = refl
 limit-held most′ (AtMost v) h = held-leb v most′ h
 
-limit-kept : (most′ : ℕ) (l : Limit) → most′ < most → limitUpTo most′ l ≡ true → limitBy held l ≡ l
+limit-kept : (most′ : ℕ) (l : Limit) → most′ < most → limitWithin l most′ ≡ true → limitBy held l ≡ l
 limit-kept most′ Any h e = refl
 limit-kept most′ (AtMost v) h e = let p = leb-true v most′ e in ap AtMost (omega arith)
 

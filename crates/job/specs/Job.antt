@@ -4,10 +4,10 @@ use mathlib.Core.Bool.{Bool, true, false, not, _&&_, _||_}
 use mathlib.Core.List.{List, [], _∷_, _++_, map}
 use lib.Dec.{leb, ltb, eqb}
 use lib.ListN.{length}
-use Rattle.model.specs.Shares.{pick, greatestShare}
+use Rattle.groups.specs.Flat.{memberships}
+use Rattle.model.specs.Shares.{pick, greatestShare, greatestTotal}
+use Rattle.model.specs.Figures.{greatestDeviation, greatestSpread, limitWithin}
 use Rattle.model.specs.Groups.{Group}
-use Rattle.model.specs.declared.Limit.{Limit}
-use Rattle.model.specs.declared.Limit.the-variants.{Any, AtMost}
 use Rattle.model.specs.declared.Limits.{Limits}
 use Rattle.model.specs.declared.Refusal.{Refusal}
 use Rattle.text.specs.Parsed.{Parsed, parsed, failed}
@@ -18,18 +18,6 @@ pub record Job : Type 0 where
   pub lows : List ℕ
   pub highs : List ℕ
   pub groups : List Group
-
--- 01: a total is 0 to 256,000,000
-abbrev pub greatestTotal : ℕ
-greatestTotal = 256_000_000
-
--- 01: the deviation limit is 0 to 100,000,000,000
-abbrev pub greatestDeviation : ℕ
-greatestDeviation = 100_000_000_000
-
--- 01: the spread limit is 0 to 100,000,000,000,000,000
-abbrev pub greatestSpread : ℕ
-greatestSpread = 100_000_000_000_000_000
 
 -- 01: "1 to 256 units"
 abbrev pub mostUnits : ℕ
@@ -43,23 +31,9 @@ mostGroups = 64
 abbrev pub mostMemberships : ℕ
 mostMemberships = 4096
 
--- the numbers that the groups take in the flat list: 4 for each group, and the memberships
-abbrev pub mostFlat : ℕ
-mostFlat = 4352
-
 -- 01: "at most 65,536 bytes"
 abbrev pub mostBytes : ℕ
 mostBytes = 65_536
-
--- 01: memberships, "the sum of the groups' n"
-unfoldable pub memberships : List Group → ℕ
-memberships [] = 0
-memberships (g ∷ gs) = length (g .members) + memberships gs
-
--- any, or a number in range
-abbrev pub limitUpTo : ℕ → Limit → Bool
-limitUpTo most Any = true
-limitUpTo most (AtMost v) = leb v most
 
 -- a unit number from 1 to the count
 abbrev pub named : ℕ → ℕ → Bool
@@ -97,8 +71,8 @@ unitVerdict units groups l =
 unfoldable pub headVerdict : ℕ → ℕ → ℕ → Limits → ℕ → ℕ
 headVerdict groups taken total limits count =
     unless (leb total greatestTotal) 4
-    (unless (limitUpTo greatestDeviation (limits .deviation)) 4
-    (unless (limitUpTo greatestSpread (limits .spread)) 4
+    (unless (limitWithin (limits .deviation) greatestDeviation) 4
+    (unless (limitWithin (limits .spread) greatestSpread) 4
     (unless (ltb groups mostGroups) 6
     (unless (leb (taken + count) mostMemberships) 6 0))))
 

@@ -1,7 +1,6 @@
 pub mod Form
 pub mod Spelling
 pub mod Job
-pub mod Flat
 pub mod Distinct
 pub mod Verdicts
 pub mod Held

@@ -14,7 +14,7 @@ use Rattle.text.specs.Parsed.{Parsed, parsed, failed}
 use Rattle.job.specs.Form.{Line, unit, group, printLine, line}
 use Rattle.job.specs.Spelling.{printed-line}
 use Rattle.job.specs.Job.{Job, next, stop, stepOn, verdict, judged, add, placeOf, Outcome, accepted, refused, refusal, onward, readLines, readJob}
-use Rattle.job.specs.Flat.{flatten}
+use Rattle.groups.specs.Flat.{flatten}
 use Rattle.job.specs.declared.steps.Progress.{Progress}
 use Rattle.job.specs.declared.Reading.{Reading}
 use Rattle.job.specs.declared.Reading.the-variants.{Read, Refused}

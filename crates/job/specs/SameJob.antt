@@ -7,9 +7,10 @@ use native.Mathlib.Omega.{arith}
 use lib.ListN.{length, length-append, length-map}
 use Rattle.model.specs.Groups.{Group}
 use Rattle.job.specs.Accepting.{Takes}
-use Rattle.job.specs.Flat.{memberships-snoc}
+use Rattle.groups.specs.Flat.{memberships}
+use Rattle.groups.specs.Laws.Storing.{memberships-snoc}
 use Rattle.job.specs.Form.{GroupLine, Line, unit, group}
-use Rattle.job.specs.Job.{Job, memberships, groupOf, membersVerdict, verdict, add}
+use Rattle.job.specs.Job.{Job, groupOf, membersVerdict, verdict, add}
 use Rattle.job.specs.Verdicts.{HeadGood, first-zero, head-good, good-head}
 
 -- two jobs: the same units, and the same groups in two orders

@@ -8,8 +8,9 @@ use borrow.Author.Tests.{le-leb, lt-leb, eq-eqb, ne-eqb}
 use lib.ListN.{length, drop, length-drop, drop-of-length-le}
 use Rattle.model.specs.declared.Refusal.{Refusal}
 use Rattle.job.specs.Form.{line}
-use Rattle.job.specs.Job.{Job, mostBytes, noLines, memberships, stop, stepOn, Outcome, accepted, refused, refusal, readLines, someUnit, readJob}
-use Rattle.job.specs.Flat.{flatten, length-flatten}
+use Rattle.groups.specs.Flat.{memberships, flatten}
+use Rattle.groups.specs.Laws.Storing.{length-flatten}
+use Rattle.job.specs.Job.{Job, mostBytes, noLines, stop, stepOn, Outcome, accepted, refused, refusal, readLines, someUnit, readJob}
 use Rattle.job.specs.Steps.{lists, Holds, Answers}
 use Rattle.job.specs.declared.steps.Taken.the-variants as taken
 use Rattle.text.specs.declared.Spot.{Spot}

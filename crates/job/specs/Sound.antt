@@ -8,20 +8,22 @@ use native.Mathlib.Decide.{ℕ-discrete}
 use borrow.Author.Tests.{ne-eqb, eq-eqb}
 use lib.Dec.{leb}
 use lib.ListN.{length, length-append, length-map}
-use Rattle.model.specs.Shares.{pick, greatestShare, Ranges, none as no-ranges, also as and-range}
+use Rattle.model.specs.Figures.{greatestDeviation, greatestSpread, limitWithin}
+use Rattle.model.specs.Shares.{pick, greatestShare, Ranges, none as no-ranges, also as and-range, greatestTotal}
 use Rattle.model.specs.Groups.{Group}
 use Rattle.text.specs.Parsed.{Parsed, parsed, failed}
 use Rattle.job.specs.Form.{Line, unit, group, line}
-use Rattle.job.specs.Job.{Job, greatestTotal, greatestDeviation, greatestSpread, mostUnits, mostGroups, mostMemberships, mostBytes, memberships, limitUpTo, distinct, groupOf, verdict, add, placeOf, judged, Stepped, next, stop, stepOn, Outcome, accepted, refused, refusal, onward, readLines, noLines, someUnit, readJob}
-use Rattle.job.specs.Flat.{memberships-snoc}
+use Rattle.groups.specs.Flat.{memberships}
+use Rattle.groups.specs.Laws.Storing.{memberships-snoc}
+use Rattle.job.specs.Job.{Job, mostUnits, mostGroups, mostMemberships, mostBytes, distinct, groupOf, verdict, add, placeOf, judged, Stepped, next, stop, stepOn, Outcome, accepted, refused, refusal, onward, readLines, noLines, someUnit, readJob}
 use Rattle.job.specs.Distinct.{AllBelow, distinct-members, members-below}
 use Rattle.job.specs.Verdicts.{unit-good, first-zero, head-good, members-good}
 
 -- 01: a group "names n different units", with a total and limits in range
 pub record SoundGroup (units : ℕ) (g : Group) : Type 0 where
   pub total-fits : g .total ≤ greatestTotal
-  pub deviation-fits : limitUpTo greatestDeviation (g .limits .deviation) ≡ true
-  pub spread-fits : limitUpTo greatestSpread (g .limits .spread) ≡ true
+  pub deviation-fits : limitWithin (g .limits .deviation) greatestDeviation ≡ true
+  pub spread-fits : limitWithin (g .limits .spread) greatestSpread ≡ true
   pub some-member : 1 ≤ length (g .members)
   pub all-units : AllBelow units (g .members)
   pub all-different : distinct (g .members) ≡ true

@@ -1,13 +1,13 @@
 -- What the code holds of a job while it reads, and what taking a line does to it. Assumes nothing.
-use Prim.Native.Nat.{ℕ, _+_, _*_, _≤_}
+use Prim.Native.Nat.{ℕ, _≤_}
 use mathlib.Core.List.{List, _++_}
 use mathlib.Core.Path.{_≡_}
 use lib.ListN.{length, drop}
 use Rattle.text.specs.Parsed.{mapped, parsed}
 use Rattle.text.specs.Numbers.{held}
 use Rattle.job.specs.Form.{UnitLine, Line, unit, group, groupAs, line}
-use Rattle.job.specs.Job.{Job, mostUnits, mostGroups, mostMemberships, memberships, Stepped, next, stop, stepOn}
-use Rattle.job.specs.Flat.{flatten}
+use Rattle.groups.specs.Flat.{memberships, flatten, flatLength}
+use Rattle.job.specs.Job.{Job, mostUnits, mostGroups, mostMemberships, Stepped, next, stop, stepOn}
 use Rattle.job.specs.declared.steps.Progress.{Progress}
 use Rattle.job.specs.declared.steps.Taken.{Taken}
 use Rattle.job.specs.declared.steps.Taken.the-variants as taken
@@ -36,7 +36,7 @@ pub record Holds (job : Job) (p : Progress) (l : Lists) : Type 0 where
   pub taken : memberships (job .groups) ≡ p .memberships
   pub lows : l .lows ≡ job .lows ++ drop (p .units) (l .lows₀)
   pub highs : l .highs ≡ job .highs ++ drop (p .units) (l .highs₀)
-  pub flat : l .flat ≡ flatten (job .groups) ++ drop (p .groups * 4 + p .memberships) (l .flat₀)
+  pub flat : l .flat ≡ flatten (job .groups) ++ drop (flatLength (p .groups) (p .memberships)) (l .flat₀)
 
 -- an answer says what a line did
 abbrev pub Answers : List ℕ → Lists → Taken → Stepped → Type 0

@@ -1,5 +1,5 @@
 -- Taking a line: the code's tests and stores do to its lists what the line does to the job. Assumes nothing.
-use Prim.Native.Nat.{ℕ, zero, suc, _+_, _-_, _*_, _≤_, _<_}
+use Prim.Native.Nat.{ℕ, zero, suc, _+_, _≤_, _<_}
 use mathlib.Core.Bool.{true, false}
 use mathlib.Core.List.{List, [], _∷_, _++_, map, append-assoc}
 use mathlib.Core.Path.{_≡_, refl, sym, ap, _∙_}
@@ -11,8 +11,9 @@ use Rattle.text.specs.Parsed.{parsed, failed, mapped, orElse}
 use Rattle.text.specs.Numbers.{held}
 use Rattle.job.specs.Form.{UnitLine, GroupLine, unit, group, unitAs, groupAs, lineAs, line}
 use Rattle.job.specs.Held.{step-held}
-use Rattle.job.specs.Job.{Job, mostUnits, mostFlat, memberships, unitVerdict, headVerdict, membersVerdict, verdict, first, allNamed, distinct, memberOf, groupOf, add, refusal, placeOf, judged, next, stop, stepOn}
-use Rattle.job.specs.Flat.{limitCode, flatGroup, flatten, flatten-snoc, length-flatten, memberships-snoc, stored, put-behind}
+use Rattle.groups.specs.Flat.{mostFlat, headOf, flatGroup, flatten, flatLength}
+use Rattle.groups.specs.Laws.Storing.{flatten-snoc, length-flatten, memberships-snoc, stored, put-behind}
+use Rattle.job.specs.Job.{Job, mostUnits, unitVerdict, headVerdict, membersVerdict, verdict, first, allNamed, distinct, memberOf, groupOf, add, refusal, placeOf, judged, next, stop, stepOn}
 use Rattle.job.specs.Verdicts.{unit-good, head-good}
 use Rattle.job.specs.Steps.{Lists, Holds}
 use Rattle.job.specs.declared.steps.Progress.{Progress}
@@ -77,62 +78,62 @@ abbrev pub numbersOf : GroupLine → List ℕ
 numbersOf g = g .first ∷ g .others
 
 module _ (job : Job) (p : Progress) (l : Lists) (holds : Holds job p l) (g : GroupLine) where
-  abbrev headOf : ℕ
-  headOf = headVerdict (p .groups) (p .memberships) (g .total) (g .limits) (length (numbersOf g))
+  abbrev headNumber : ℕ
+  headNumber = headVerdict (p .groups) (p .memberships) (g .total) (g .limits) (length (numbersOf g))
 
-  group-verdict : verdict job (group g) ≡ first headOf (membersVerdict (p .units) (numbersOf g))
+  group-verdict : verdict job (group g) ≡ first headNumber (membersVerdict (p .units) (numbersOf g))
   unfolding verdict
   group-verdict = rw (holds .units, holds .groups, holds .taken)
 
   -- a group line whose head has a refusal
-  pub head-refused : (s : List ℕ) (v : ℕ) → v ≡ headOf → (v ≡ 0 → ⊥) → stepOn job (parsed (group g) s) ≡ stop (refusal v (placeAt p))
+  pub head-refused : (s : List ℕ) (v : ℕ) → v ≡ headNumber → (v ≡ 0 → ⊥) → stepOn job (parsed (group g) s) ≡ stop (refusal v (placeAt p))
   unfolding stepOn
   head-refused s v e n =
       rw (group-verdict, ← e, first-some v (membersVerdict (p .units) (numbersOf g)) n, judged-stop v (add job (group g)) s (placeOf job) n, place-held job p l holds)
 
   -- a group line with a unit number out of range
-  pub number-refused : (s : List ℕ) → headOf ≡ 0 → allNamed (p .units) (numbersOf g) ≡ false → stepOn job (parsed (group g) s) ≡ stop (refusal 8 (placeAt p))
+  pub number-refused : (s : List ℕ) → headNumber ≡ 0 → allNamed (p .units) (numbersOf g) ≡ false → stepOn job (parsed (group g) s) ≡ stop (refusal 8 (placeAt p))
   unfolding stepOn membersVerdict
   number-refused s e h = rw (group-verdict, e, h, place-held job p l holds)
 
   -- a group line with a unit twice
-  pub twice-refused : (s : List ℕ) → headOf ≡ 0 → allNamed (p .units) (numbersOf g) ≡ true → distinct (numbersOf g) ≡ false → stepOn job (parsed (group g) s) ≡ stop (refusal 9 (placeAt p))
+  pub twice-refused : (s : List ℕ) → headNumber ≡ 0 → allNamed (p .units) (numbersOf g) ≡ true → distinct (numbersOf g) ≡ false → stepOn job (parsed (group g) s) ≡ stop (refusal 9 (placeAt p))
   unfolding stepOn membersVerdict
   twice-refused s e h d = rw (group-verdict, e, h, d, place-held job p l holds)
 
   -- a group line without a refusal
-  pub group-next : (s : List ℕ) → headOf ≡ 0 → allNamed (p .units) (numbersOf g) ≡ true → distinct (numbersOf g) ≡ true → stepOn job (parsed (group g) s) ≡ next (add job (group g)) s
+  pub group-next : (s : List ℕ) → headNumber ≡ 0 → allNamed (p .units) (numbersOf g) ≡ true → distinct (numbersOf g) ≡ true → stepOn job (parsed (group g) s) ≡ next (add job (group g)) s
   unfolding stepOn membersVerdict
   group-next s e h d = rw (group-verdict, e, h, d)
 
   -- where the line's numbers begin in the flat list
   abbrev start : ℕ
-  start = p .groups * 4 + p .memberships
+  start = flatLength (p .groups) (p .memberships)
 
-  fits : headOf ≡ 0 → mostFlat ≤ length (l .flat) → start + 4 + length (numbersOf g) ≤ length (l .flat₀)
+  fits : headNumber ≡ 0 → mostFlat ≤ length (l .flat) → start + 4 + length (numbersOf g) ≤ length (l .flat₀)
   fits e h =
       let k = head-good _ _ (g .total) (g .limits) _ e in
       omega (arith, k .room, k .fits, ap length (holds .flat), length-append (flatten (job .groups)) (drop start (l .flat₀)), length-drop start (l .flat₀), length-flatten (job .groups), holds .groups, holds .taken)
 
   -- the numbers of a group before its members
   abbrev pub headNumbers : List ℕ
-  headNumbers = g .total ∷ limitCode (g .limits .deviation) ∷ limitCode (g .limits .spread) ∷ length (numbersOf g) ∷ []
+  headNumbers = headOf (g .total) (g .limits) (length (numbersOf g))
 
-  flat-stored : headOf ≡ 0 → mostFlat ≤ length (l .flat) → sets (sets (l .flat) (start + 4) (map memberOf (numbersOf g))) start headNumbers ≡ flatten (job .groups ++ groupOf g ∷ []) ++ drop ((p .groups + 1) * 4 + (p .memberships + length (numbersOf g))) (l .flat₀)
+  flat-stored : headNumber ≡ 0 → mostFlat ≤ length (l .flat) → sets (sets (l .flat) (start + 4) (map memberOf (numbersOf g))) start headNumbers ≡ flatten (job .groups ++ groupOf g ∷ []) ++ drop (flatLength (p .groups + 1) (p .memberships + length (numbersOf g))) (l .flat₀)
   flat-stored e h =
       let ms : List ℕ = map memberOf (numbersOf g) in
       let n : length ms ≡ length (numbersOf g) = length-map (numbersOf g) memberOf in
       let before : length (flatten (job .groups)) ≡ start = length-flatten (job .groups) ∙ rw (holds .groups, holds .taken) in
       let whole : flatten (job .groups) ++ flatGroup (groupOf g) ≡ flatten (job .groups ++ groupOf g ∷ []) = sym (flatten-snoc (job .groups) (groupOf g)) in
-      let end : start + 4 + length ms ≡ (p .groups + 1) * 4 + (p .memberships + length (numbersOf g)) = omega arith in
+      let end : start + 4 + length ms ≡ flatLength (p .groups + 1) (p .memberships + length (numbersOf g)) = omega arith in
       ap (λ f. sets (sets f (start + 4) ms) start headNumbers) (holds .flat)
-      ∙ ap (λ k. sets (sets (flatten (job .groups) ++ drop start (l .flat₀)) (start + 4) ms) start (g .total ∷ limitCode (g .limits .deviation) ∷ limitCode (g .limits .spread) ∷ k ∷ [])) (sym n)
-      ∙ stored (flatten (job .groups)) (l .flat₀) ms (g .total) (limitCode (g .limits .deviation)) (limitCode (g .limits .spread)) (length ms) start before (omega (arith, fits e h))
+      ∙ ap (λ k. sets (sets (flatten (job .groups) ++ drop start (l .flat₀)) (start + 4) ms) start (headOf (g .total) (g .limits) k)) (sym n)
+      ∙ stored (g .total) (g .limits) (length ms) ms (flatten (job .groups)) (l .flat₀) start before (omega (arith, fits e h))
       ∙ ap (λ f. f ++ drop (start + 4 + length ms) (l .flat₀)) whole
       ∙ ap (λ k. flatten (job .groups ++ groupOf g ∷ []) ++ drop k (l .flat₀)) end
 
   -- the lists with a group more hold the job with it
-  pub group-holds : (count : ℕ) (flat : List ℕ) → headOf ≡ 0 → mostFlat ≤ length (l .flat) → length (numbersOf g) ≡ count → flat ≡ sets (sets (l .flat) (start + 4) (map memberOf (numbersOf g))) start headNumbers → Holds (add job (group g)) (record { units = p .units; groups = p .groups + 1; memberships = p .memberships + count }) (record { lows₀ = l .lows₀; highs₀ = l .highs₀; flat₀ = l .flat₀; lows = l .lows; highs = l .highs; flat = flat })
+  pub group-holds : (count : ℕ) (flat : List ℕ) → headNumber ≡ 0 → mostFlat ≤ length (l .flat) → length (numbersOf g) ≡ count → flat ≡ sets (sets (l .flat) (start + 4) (map memberOf (numbersOf g))) start headNumbers → Holds (add job (group g)) (record { units = p .units; groups = p .groups + 1; memberships = p .memberships + count }) (record { lows₀ = l .lows₀; highs₀ = l .highs₀; flat₀ = l .flat₀; lows = l .lows; highs = l .highs; flat = flat })
   unfolding add
   group-holds count flat e h n s =
       let k = head-good _ _ (g .total) (g .limits) _ e in
@@ -153,7 +154,7 @@ part-of-sets d vs i h =
     rw (sets-eq vs d i h, append-assoc, drop-at (take i d) (vs ++ drop (i + length vs) d) i (length-take-le i d (omega arith))) (take-at vs _ (length vs) refl)
 
 -- equal heads are stored alike
-pub heads-alike : (d : List ℕ) (at : ℕ) {t u : ℕ} {l k : Limits} {n m : ℕ} → t ≡ u → l ≡ k → n ≡ m → sets d at (t ∷ limitCode (l .deviation) ∷ limitCode (l .spread) ∷ n ∷ []) ≡ sets d at (u ∷ limitCode (k .deviation) ∷ limitCode (k .spread) ∷ m ∷ [])
+pub heads-alike : (d : List ℕ) (at : ℕ) {t u : ℕ} {l k : Limits} {n m : ℕ} → t ≡ u → l ≡ k → n ≡ m → sets d at (headOf t l n) ≡ sets d at (headOf u k m)
 heads-alike d at e f g = rw (e, f, g)
 
 -- a line that is no unit line is taken as a group line

@@ -7,7 +7,7 @@ use native.Mathlib.Omega.{arith}
 use lib.ListN.{length, set}
 use lib.Seq.{sets}
 use Rattle.text.specs.Parsed.{Parsed, parsed, failed, andThen, mapped, orElse, mapped-like, mapped-parsed}
-use Rattle.text.specs.Tests.{and-true, and-assoc}
+use Rattle.model.specs.Laws.Tests.{and-true, and-assoc}
 use Rattle.text.specs.Numbers.{held}
 use Rattle.text.specs.Printed.{number-after-shorter}
 use Rattle.job.specs.Form.{GroupLine, space, numberAs, membersAs, grouped, groupAs}

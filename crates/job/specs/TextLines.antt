@@ -1,6 +1,6 @@
 -- The lines of a text as bytes: the text cut after each byte 10. Assumes nothing.
 use Prim.Native.Nat.{ℕ, zero, suc, _+_, _/_, _%_, _<_}
-use mathlib.Core.Bool.{Bool, true, false, _||_}
+use mathlib.Core.Bool.{Bool, true, false}
 use mathlib.Core.List.{List, [], _∷_, _++_, append-assoc, flatten as joined}
 use mathlib.Core.Path.{_≡_, refl, sym, ap, _∙_}
 use native.Mathlib.Decide.{decLt}
@@ -8,6 +8,7 @@ use native.Mathlib.Nat.{div-lt-self}
 use native.Mathlib.Omega.{arith}
 use borrow.Author.Tests.{ne-eqb, eqb-false}
 use lib.Dec.{eqb}
+use Rattle.model.specs.Laws.Tests.{neither}
 use Rattle.model.specs.Shares.{pick}
 use Rattle.model.specs.declared.Limit.{Limit}
 use Rattle.model.specs.declared.Limit.the-variants.{Any, AtMost}
@@ -47,11 +48,6 @@ pub record OneLine (bytes : List ℕ) : Type 0 where
   pub body : List ℕ
   pub ended : bytes ≡ body ++ 10 ∷ []
   pub inside : holds 10 body ≡ false
-
--- neither of two tests holds
-neither : (a b : Bool) → a || b ≡ false → (a ≡ false) × (b ≡ false)
-neither false b h = (refl, h)
-neither true b h = absurd (let z : _≡_ {A = ℕ} 0 1 = cc in omega arith)
 
 -- a number in neither of two lists is not in both together
 both-without : (x : ℕ) (xs ys : List ℕ) → holds x xs ≡ false → holds x ys ≡ false → holds x (xs ++ ys) ≡ false

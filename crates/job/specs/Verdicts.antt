@@ -6,12 +6,14 @@ use mathlib.Core.Path.{_≡_, refl}
 use native.Mathlib.Omega.{arith}
 use borrow.Author.Tests.{le-leb, lt-ltb, leb-true, ltb-true, eqb-true}
 use lib.Dec.{leb, ltb, eqb}
-use Rattle.model.specs.Shares.{greatestShare}
+use Rattle.model.specs.Figures.{greatestDeviation, greatestSpread, limitWithin}
+use Rattle.groups.specs.Flat.{mostWord, Coded}
+use Rattle.model.specs.Shares.{greatestShare, greatestTotal}
 use Rattle.model.specs.declared.Limit.{Limit}
 use Rattle.model.specs.declared.Limit.the-variants.{Any, AtMost}
 use Rattle.model.specs.declared.Limits.{Limits}
 use Rattle.job.specs.Form.{UnitLine}
-use Rattle.job.specs.Job.{greatestTotal, greatestDeviation, greatestSpread, mostUnits, mostGroups, mostMemberships, limitUpTo, allNamed, distinct, unless, unitVerdict, headVerdict, membersVerdict, first}
+use Rattle.job.specs.Job.{mostUnits, mostGroups, mostMemberships, allNamed, distinct, unless, unitVerdict, headVerdict, membersVerdict, first}
 
 unless-zero : (t : Bool) (n r : ℕ) → unless t (suc n) r ≡ 0 → (t ≡ true) × (r ≡ 0)
 unless-zero true n r h = (refl, h)
@@ -44,8 +46,8 @@ unit-good units groups l h =
 -- a group line's head without a refusal
 pub record HeadGood (groups taken total : ℕ) (limits : Limits) (count : ℕ) : Type 0 where
   pub total-fits : total ≤ greatestTotal
-  pub deviation-fits : limitUpTo greatestDeviation (limits .deviation) ≡ true
-  pub spread-fits : limitUpTo greatestSpread (limits .spread) ≡ true
+  pub deviation-fits : limitWithin (limits .deviation) greatestDeviation ≡ true
+  pub spread-fits : limitWithin (limits .spread) greatestSpread ≡ true
   pub room : groups < mostGroups
   pub fits : taken + count ≤ mostMemberships
 
@@ -54,8 +56,8 @@ pub head-good : (groups taken total : ℕ) (limits : Limits) (count : ℕ) → h
 unfolding headVerdict
 head-good groups taken total limits count h =
     let a = unless-zero (leb total greatestTotal) 3 _ h in
-    let b = unless-zero (limitUpTo greatestDeviation (limits .deviation)) 3 _ (a .1) in
-    let c = unless-zero (limitUpTo greatestSpread (limits .spread)) 3 _ (b .1) in
+    let b = unless-zero (limitWithin (limits .deviation) greatestDeviation) 3 _ (a .1) in
+    let c = unless-zero (limitWithin (limits .spread) greatestSpread) 3 _ (b .1) in
     let d = unless-zero (ltb groups mostGroups) 5 _ (c .1) in
     let e = unless-zero (leb (taken + count) mostMemberships) 5 _ (d .1) in
     record { total-fits = leb-true _ _ (a .0); deviation-fits = b .0; spread-fits = c .0; room = ltb-true _ _ (d .0); fits = leb-true _ _ (e .0) }
@@ -86,7 +88,7 @@ members-good units ms h =
     let b = unless-zero (distinct ms) 8 _ (a .1) in
     record { all-named = a .0; all-distinct = b .0 }
 
--- a limit up to a number is up to a greater one
-pub limit-wider : (a b : ℕ) (l : Limit) → a ≤ b → limitUpTo a l ≡ true → limitUpTo b l ≡ true
-limit-wider a b Any h e = refl
-limit-wider a b (AtMost v) h e = le-leb v b (omega (arith, leb-true v a e))
+-- a limit in range can be stored
+pub limit-coded : (most : ℕ) (l : Limit) → most < mostWord → limitWithin l most ≡ true → Coded l
+limit-coded most Any h e = omega arith
+limit-coded most (AtMost v) h e = omega (arith, leb-true v most e)

@@ -7,8 +7,8 @@ use Rattle.text.specs.Parsed.{andThen, mapped, orElse, word}
 use Rattle.text.specs.Words.{bytes}
 use Rattle.text.specs.Numbers.{number, numberAfter, digits, digitsOf, printNumber}
 use Rattle.job.specs.Form.{Line, unit, group, printLimit, printMembers, printLine, numberAs, limitAs, unitAs, membersAs, headAs, grouped, groupAs, lineAs, line}
-use Rattle.job.specs.Job.{Job, memberships, allNamed, holds, distinct, unitVerdict, headVerdict, membersVerdict, verdict, add, stepOn, Outcome, accepted, onward, readLines, someUnit, readJob}
-use Rattle.job.specs.Flat.{flatten}
+use Rattle.groups.specs.Flat.{memberships, flatten}
+use Rattle.job.specs.Job.{Job, allNamed, holds, distinct, unitVerdict, headVerdict, membersVerdict, verdict, add, stepOn, Outcome, accepted, onward, readLines, someUnit, readJob}
 use Rattle.job.specs.Orders.{OfGroup, Reordered}
 use Rattle.job.specs.TextLines.{ahead, linesOf}
 

@@ -3,9 +3,12 @@ ghost use mathlib.Core.Path.{_≡_};
 ghost use Prim.Native.Nat.{_≤_};
 ghost use mathlib.Core.List.{_++_};
 ghost use lib.ListN.{length, take, drop};
-ghost use Rattle.job.specs.Job.{mostUnits, mostFlat};
+ghost use Rattle.groups.specs.Flat.{mostFlat};
+ghost use Rattle.job.specs.Job.{mostUnits};
 ghost use Rattle.job.specs.Reading.{Scanned, Filled};
+use groups::MOST_FLAT;
 use model::Refusal;
+use model::lists::copy;
 use reader::scan_lines;
 
 pub mod lines;
@@ -43,11 +46,7 @@ fn copy_front(from: &[u64], to: &mut [u64], count: usize)
     requires { ⌜ (count ≤ length (now from)) × (count ≤ length (now to)) ⌝ }
     ensures { λ _. ⌜ now (to .exit) ≡ take count (now (from .entry)) ++ drop count (now (to .entry)) ⌝ }
 {
-    let mut i = 0;
-    while i < count {
-        to[i] = from[i];
-        i += 1;
-    }
+    copy(&from[..count], &mut to[..count]);
 }
 
 // Reads a text into a table, by way of lists that hold every job.
@@ -83,6 +82,6 @@ pub fn read(text: &[u8], lows: &mut [u64], highs: &mut [u64]) -> Reading
 {
     let mut least = [0u64; 256];
     let mut greatest = [0u64; 256];
-    let mut flat = [0u64; 4352];
+    let mut flat = [0u64; MOST_FLAT];
     read_by(text, lows, highs, &mut least, &mut greatest, &mut flat)
 }

@@ -1,23 +1,23 @@
 // Taking the lines of a job text one by one: the refusals of a line, and what it adds to the lists.
 ghost use mathlib.Core.Path.{_≡_};
-ghost use mathlib.Core.Bool.{true};
-ghost use mathlib.Core.List.{List, _∷_, []};
-ghost use Prim.Native.Nat.{ℕ, _+_, _≤_, _<_};
-ghost use lib.ListN.{length, drop, replicate};
-ghost use lib.Seq.{sets};
-ghost use Rattle.job.specs.Job.{mostBytes, mostUnits, mostFlat, refusal, limitUpTo, unitVerdict, headVerdict, distinct};
-ghost use Rattle.job.specs.Flat.{limitCode};
+ghost use Prim.Native.Nat.{_≤_};
+ghost use lib.ListN.{length};
+ghost use Rattle.groups.specs.Flat.{mostFlat};
+ghost use Rattle.job.specs.Job.{mostBytes, mostUnits, refusal, unitVerdict, headVerdict, distinct};
 ghost use Rattle.job.specs.Distinct.{AllBelow, freshBy};
 ghost use Rattle.job.specs.Steps.{Bounded, UnitTaken, GroupTaken, LineTaken};
 ghost use Rattle.job.specs.Taking.{placeAt};
-ghost use Rattle.text.specs.Numbers.{most as mostNumber};
 use crate::lines::GroupRead;
 use crate::lines::Head;
 use crate::lines::UnitRead;
 use crate::lines::group_line;
 use crate::lines::unit_line;
+use groups::HEAD;
+use groups::put_group;
 use model::Checked;
-use model::Limit;
+use model::GREATEST_DEVIATION;
+use model::GREATEST_SPREAD;
+use model::GREATEST_TOTAL;
 use model::Refusal;
 use model::Share;
 use text::Spot;
@@ -41,12 +41,6 @@ pub const MOST_GROUPS: usize = 64;
 
 pub const MOST_MEMBERSHIPS: usize = 4096;
 
-const MOST_TOTAL: u64 = 256_000_000;
-
-const MOST_DEVIATION: u64 = 100_000_000_000;
-
-const MOST_SPREAD: u64 = 100_000_000_000_000_000;
-
 // The refusal of a unit line, 0 where there is none.
 fn unit_verdict(progress: Progress, low: u64, high: u64) -> u64
     ensures { λ r. ⌜ r ≡ unitVerdict (progress .units) (progress .groups) (record { low = low; high = high }) ⌝ }
@@ -69,30 +63,21 @@ fn unit_verdict(progress: Progress, low: u64, high: u64) -> u64
     0
 }
 
-fn limit_up_to(limit: Limit, most: u64) -> bool
-    ensures { λ r. ⌜ r ≡ limitUpTo most limit ⌝ }
-{
-    match limit {
-        Limit::Any => true,
-        Limit::AtMost(number) => number <= most,
-    }
-}
-
 // The refusal of a group line by its head and the number of its members, 0 where there is none.
 fn head_verdict(progress: Progress, head: Head, count: usize) -> u64
     requires { ⌜ Bounded progress ⌝ }
     ensures { λ r. ⌜ r ≡ headVerdict (progress .groups) (progress .memberships) (head .total) (head .limits) count ⌝ }
 {
-    if MOST_TOTAL < head.total {
+    if GREATEST_TOTAL < head.total {
         return 4;
     }
     let limits = head.limits;
     let deviation = limits.deviation;
-    if !limit_up_to(deviation, MOST_DEVIATION) {
+    if !deviation.within(GREATEST_DEVIATION) {
         return 4;
     }
     let spread = limits.spread;
-    if !limit_up_to(spread, MOST_SPREAD) {
+    if !spread.within(GREATEST_SPREAD) {
         return 4;
     }
     if MOST_GROUPS <= progress.groups {
@@ -127,32 +112,6 @@ fn are_distinct(members: &[u64]) -> bool
 {
     let mut marks = [0u64; 256];
     fresh_by(members, &mut marks)
-}
-
-fn limit_code(limit: Limit) -> u64
-    requires { ⌜ limitUpTo mostNumber limit ≡ true ⌝ }
-    ensures { λ r. ⌜ r ≡ limitCode limit ⌝ }
-{
-    match limit {
-        Limit::Any => 0,
-        Limit::AtMost(number) => number + 1,
-    }
-}
-
-// Stores a group's head: its total, the codes of its limits, and the number of its members.
-fn put_head(flat: &mut [u64], at: usize, head: Head, count: usize)
-    requires { ⌜ (at + 4 ≤ length (now flat)) × (limitUpTo mostNumber (head .limits .deviation) ≡ true) × (limitUpTo mostNumber (head .limits .spread) ≡ true) ⌝ }
-    ensures { λ _. ⌜ now (flat .exit) ≡ sets (now (flat .entry)) at (head .total ∷ limitCode (head .limits .deviation) ∷ limitCode (head .limits .spread) ∷ count ∷ []) ⌝ }
-{
-    let limits = head.limits;
-    let deviation = limits.deviation;
-    let spread = limits.spread;
-    let first = limit_code(deviation);
-    let second = limit_code(spread);
-    flat[at] = head.total;
-    flat[at + 1] = first;
-    flat[at + 2] = second;
-    flat[at + 3] = count as u64;
 }
 
 // The refusal of the line after what was read.
@@ -199,8 +158,8 @@ fn take_group(text: &[u8], spot: Spot, progress: Progress, flat: &mut [u64]) -> 
     let units = progress.units;
     let groups = progress.groups;
     let memberships = progress.memberships;
-    let at = groups * 4 + memberships;
-    let from = at + 4;
+    let at = groups * HEAD + memberships;
+    let from = at + HEAD;
     let GroupRead::Is(head, members) = group_line(text, spot, flat, from, units) else {
         return refuse(progress, 3);
     };
@@ -216,7 +175,9 @@ fn take_group(text: &[u8], spot: Spot, progress: Progress, flat: &mut [u64]) -> 
     if !are_distinct(&flat[from..from + count]) {
         return refuse(progress, 9);
     }
-    put_head(flat, at, head, count);
+    let total = head.total;
+    let limits = head.limits;
+    put_group(flat, at, total, limits, count);
     let more = Progress {
         units,
         groups: groups + 1,

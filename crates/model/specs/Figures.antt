@@ -4,6 +4,7 @@ use mathlib.Core.Bool.{Bool, true, _&&_}
 use mathlib.Core.List.{List}
 use lib.Dec.{leb}
 use Rattle.model.specs.Shares.{sumOf}
+use Rattle.model.specs.declared.Figures.{Figures}
 use Rattle.model.specs.declared.Limit.{Limit}
 use Rattle.model.specs.declared.Limit.the-variants.{Any, AtMost}
 use Rattle.model.specs.declared.Limits.{Limits}
@@ -24,14 +25,31 @@ spread n total xs = n * sumOf (λ x. x * x) xs - total * total
 unfoldable pub above : ℕ → List ℕ → ℕ
 above t xs = sumOf (λ x. x - t) xs
 
+-- 01: the figures of n shares with the total
+abbrev pub figuresOf : ℕ → ℕ → List ℕ → Figures
+figuresOf n total xs = record { deviation = record { 0 = deviation n total xs }; spread = record { 0 = spread n total xs } }
+
 -- 01: "any limits nothing"
 abbrev pub allows : Limit → ℕ → Bool
 allows Any figure = true
 allows (AtMost most) figure = leb figure most
 
-abbrev pub met : Limits → ℕ → ℕ → Bool
-met limits d s = allows (limits .deviation) d && allows (limits .spread) s
+-- 01: "the deviation limit 0 to 100,000,000,000, the spread limit 0 to 100,000,000,000,000,000"
+abbrev pub greatestDeviation : ℕ
+greatestDeviation = 100_000_000_000
+
+abbrev pub greatestSpread : ℕ
+greatestSpread = 100_000_000_000_000_000
+
+-- a limit is any, or a number in its range
+abbrev pub limitWithin : Limit → ℕ → Bool
+limitWithin Any greatest = true
+limitWithin (AtMost most) greatest = leb most greatest
+
+-- each figure is within its limit
+abbrev pub met : Limits → Figures → Bool
+met limits figures = allows (limits .deviation) (figures .deviation .0) && allows (limits .spread) (figures .spread .0)
 
 -- 01: both figures within the limits
 abbrev pub meets : Limits → ℕ → ℕ → List ℕ → Bool
-meets limits n total xs = met limits (deviation n total xs) (spread n total xs)
+meets limits n total xs = met limits (figuresOf n total xs)

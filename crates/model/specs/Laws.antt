@@ -2,6 +2,7 @@
 pub mod Tests
 pub mod Shares
 pub mod Lists
+pub mod Writing
 pub mod Walk
 pub mod Even
 pub mod Transfer

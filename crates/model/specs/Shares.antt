@@ -15,6 +15,10 @@ pick false a b = b
 abbrev pub greatestShare : ℕ
 greatestShare = 1_000_000
 
+-- 01: "a total S (0 to 256,000,000)"
+abbrev pub greatestTotal : ℕ
+greatestTotal = 256_000_000
+
 abbrev pub checked : ℕ → Checked
 checked v = pick (leb v greatestShare) (Valid (record { copies = v })) Beyond
 

@@ -1,8 +1,21 @@
 // The planner's types, and what a limit allows.
 ghost use mathlib.Core.Path.{_≡_};
 ghost use Prim.Native.Nat.{_-_, _*_, _≤_};
-ghost use Rattle.model.specs.Figures.{allows, met};
+ghost use Rattle.model.specs.Figures.{allows, limitWithin, met};
 ghost use Rattle.model.specs.Shares.{checked};
+
+pub mod levels;
+pub mod lists;
+pub mod numbers;
+
+// A group's total is at most this.
+pub const GREATEST_TOTAL: u64 = 256_000_000;
+
+// A deviation limit is at most this.
+pub const GREATEST_DEVIATION: u64 = 100_000_000_000;
+
+// A spread limit is at most this.
+pub const GREATEST_SPREAD: u64 = 100_000_000_000_000_000;
 
 // A share: a whole number of copies from LEAST to GREATEST.
 pub struct Share {
@@ -53,10 +66,28 @@ impl Spread {
     }
 }
 
+// The figures of a group's shares.
+pub struct Figures {
+    pub deviation: Deviation,
+    pub spread: Spread,
+}
+
 // A limit is a number or the word any.
 pub enum Limit {
     Any,
     AtMost(u64),
+}
+
+impl Limit {
+    // Whether the limit is any, or a number in its range.
+    pub fn within(self, greatest: u64) -> bool
+        ensures { λ r. ⌜ r ≡ limitWithin self greatest ⌝ }
+    {
+        match self {
+            Limit::Any => true,
+            Limit::AtMost(most) => most <= greatest,
+        }
+    }
 }
 
 // A group's limits.
@@ -88,13 +119,14 @@ impl Limits {
         }
     }
 
-    pub fn met(self, deviation: Deviation, spread: Spread) -> bool
-        ensures { λ r. ⌜ r ≡ met self (deviation .0) (spread .0) ⌝ }
+    // Whether each limit allows its figure.
+    pub fn met(self, figures: Figures) -> bool
+        ensures { λ r. ⌜ r ≡ met self figures ⌝ }
     {
-        if !self.allows_deviation(deviation) {
+        if !self.allows_deviation(figures.deviation) {
             return false;
         }
-        self.allows_spread(spread)
+        self.allows_spread(figures.spread)
     }
 }
 

@@ -28,11 +28,11 @@ accepted = record { number = 0; place = 0 }
 
 -- a levelling; on a refusal the level and the figures are 0
 abbrev pub foreignLevelled : Levelling → ForeignLevelled
-foreignLevelled (Levelled level deviation spread) = record {
+foreignLevelled (Levelled level figures) = record {
   refusal = accepted;
   level = level .copies;
-  deviation = record { value = deviation .0 };
-  spread = record { value = spread .0 };
+  deviation = record { value = figures .deviation .0 };
+  spread = record { value = figures .spread .0 };
 }
 foreignLevelled (Refused refusal) = record {
   refusal = foreignRefusal refusal;

@@ -4,6 +4,7 @@ use mathlib.Core.List.{List}
 use mathlib.Core.Path.{_≡_, refl, sym, ap, _∙_}
 use native.Mathlib.Omega.{arith}
 use lib.ListN.{length}
+use Rattle.model.specs.declared.Figures.{Figures}
 use Rattle.model.specs.declared.Refusal.{Refusal}
 use Rattle.group.specs.Answers.{LevelFinding, level-exactly, level-number, level-between}
 use Rattle.group.specs.Answers.{NarrowFinding, narrow-exactly, narrow-number, narrow-between}
@@ -25,11 +26,15 @@ use Rattle.planner.specs.declared.ForeignRefusal.{ForeignRefusal}
 abbrev pub refusalOf : ForeignRefusal → Refusal
 refusalOf foreign = refusal (foreign .number) (foreign .place)
 
+-- the figures as they came across
+abbrev pub figuresIn : ForeignLevelled → Figures
+figuresIn answer = record { deviation = record { 0 = answer .deviation .value }; spread = record { 0 = answer .spread .value } }
+
 -- what `danivomel_level` promises of its answer and of the plan list
 pub record ForeignLevelPromise (lows highs : List ℕ) (total : ℕ) (plan : List ℕ) (answer : ForeignLevelled) (after : List ℕ) : Type 0 where
   -- refusal number 0: demand 2, with the level and the figures answered
   pub accepted : answer .refusal .number ≡ 0
-      → LevelPromise lows highs total (answer .level) (answer .deviation .value) (answer .spread .value) plan after
+      → LevelPromise lows highs total (answer .level) (figuresIn answer) plan after
   -- another number: 01's words for it hold, and the plan list is as it was
   pub refused : 1 ≤ answer .refusal .number
       → LevelFinding lows highs total (length plan) (level.Refused (refusalOf (answer .refusal))) × (after ≡ plan)
@@ -47,7 +52,7 @@ foreign-level-promised lows highs total plan = by-answer (levelling lows highs t
 
     by-answer : (answer : Levelling) → levelling lows highs total (length plan) ≡ answer
         → ForeignLevelPromise lows highs total plan (foreignLevelled answer) (planLeft lows highs total plan)
-    by-answer (level.Levelled v d s) is = record {
+    by-answer (level.Levelled v figures) is = record {
       accepted = λ none. level-promised lows highs total plan is;
       refused = λ some. absurd (omega arith);
       given = given-by is;

@@ -94,18 +94,18 @@ fn levelling_out(answer: Levelling) -> ForeignLevelled
     ensures { λ r. ⌜ r ≡ foreignLevelled answer ⌝ }
 {
     match answer {
-        Levelling::Levelled {
-            level,
-            deviation,
-            spread,
-        } => ForeignLevelled {
+        Levelling::Levelled { level, figures } => ForeignLevelled {
             refusal: ForeignRefusal {
                 number: 0,
                 place: 0,
             },
             level: level.copies(),
-            deviation: ForeignDeviation { value: deviation.0 },
-            spread: ForeignSpread { value: spread.0 },
+            deviation: ForeignDeviation {
+                value: figures.deviation.0,
+            },
+            spread: ForeignSpread {
+                value: figures.spread.0,
+            },
         },
         Levelling::Refused(refusal) => ForeignLevelled {
             refusal: refusal_out(refusal),

@@ -8,13 +8,14 @@ use native.Mathlib.Omega.{arith, by-contra}
 use lib.ListN.{length, getD, set, length-set}
 use borrow.Author.Tests.{le-leb, lt-leb, lt-ltb, le-ltb}
 use Rattle.model.specs.Shares.{Ranges, Within, greatestShare, sum, sumOf}
+use Rattle.model.specs.Figures.{deviation, spread, figuresOf}
 use Rattle.model.specs.Levels.{clamp, clamped, totalAt, growth, topped, levelled}
 use Rattle.model.specs.Laws.Least.{least}
 use Rattle.model.specs.Laws.Lists.{ranges-at, ranges-length, sum-sumOf}
 use Rattle.model.specs.Laws.Levelled.{topped-between, topped-within, topped-near, topped-adds, near-even, levelled-within, levelled-adds, shares-exist}
 use Rattle.model.specs.Laws.Plans.{levelled-least}
 use Rattle.model.specs.Laws.Pinned.{pinned-ranges}
-use Rattle.model.specs.Laws.Transfer.{SchurConvex}
+use Rattle.model.specs.Laws.Transfer.{SchurConvex, deviation-schur, spread-schur}
 use Rattle.probe.specs.Sums.{between-sum, pinned-sum}
 use Rattle.probe.specs.Spans.{Span}
 
@@ -156,8 +157,8 @@ module _ {lows highs : List ℕ} {total m c w r : ℕ} (ranges : Ranges lows hig
       let moved = between-sum f ranges w (topped-between ranges w r) r (topped-adds ranges w r (reached .fits)) in
       omega (arith, reached .sums f)
 
-  -- they are even, so that the levelled shares have no other figures
-  pub reached-figure : (F : List ℕ → ℕ) → SchurConvex F → F (levelled lows highs total) ≡ F (topped lows highs w r)
+  -- they are even, so that the levelled shares have no other figure that an exchange never raises
+  reached-figure : (F : List ℕ → ℕ) → SchurConvex F → F (levelled lows highs total) ≡ F (topped lows highs w r)
   reached-figure F convex =
       let inside : Within lows highs (topped lows highs w r) = topped-within ranges w r in
       let exist : (sum lows ≤ total) × (total ≤ sum highs) = shares-exist ranges total .0 (topped lows highs w r, inside, reached-adds) in
@@ -165,3 +166,8 @@ module _ {lows highs : List ℕ} {total m c w r : ℕ} (ranges : Ranges lows hig
       (levelled-least ranges total inside reached-adds F convex)
       (least convex inside (near-even (topped-near ranges w r)) (levelled-within ranges total)
       (levelled-adds ranges total (exist .0) (exist .1) ∙ sym reached-adds))
+
+  -- so the same figures
+  pub reached-figures : (n : ℕ) → figuresOf n total (levelled lows highs total) ≡ figuresOf n total (topped lows highs w r)
+  reached-figures n =
+      rw (reached-figure (deviation n total) (deviation-schur n total), reached-figure (spread n total) (spread-schur n total))

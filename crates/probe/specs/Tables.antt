@@ -5,7 +5,7 @@ use mathlib.Core.Path.{_≡_}
 use native.Mathlib.Nat.{mul-le-mul}
 use native.Mathlib.Omega.{arith}
 use lib.ListN.{length}
-use Rattle.model.specs.Shares.{Ranges, greatestShare, sumOf}
+use Rattle.model.specs.Shares.{Ranges, greatestShare, greatestTotal, sumOf}
 use Rattle.model.specs.Figures.{apart}
 use Rattle.model.specs.Levels.{clamp, clamped}
 use Rattle.model.specs.Laws.Level.{clamp-at-most}
@@ -18,7 +18,7 @@ pub record Sound (lows highs : List ℕ) (total : ℕ) : Type 0 where
   pub ranges : Ranges lows highs
   pub paired : length highs ≡ length lows
   pub few : length lows ≤ 256
-  pub small : total ≤ 256_000_000
+  pub small : total ≤ greatestTotal
 
 -- a share's part of T, of the deviation and of the sum of squares
 abbrev pub itself : ℕ → ℕ
@@ -62,7 +62,7 @@ Small f = (x : ℕ) → x ≤ suc greatestShare → f x ≤ greatestPart
 pub small-itself : Small itself
 small-itself x share = omega arith
 
-pub small-mean : {n total : ℕ} → n ≤ 256 → total ≤ 256_000_000 → Small (fromMean n total)
+pub small-mean : {n total : ℕ} → n ≤ 256 → total ≤ greatestTotal → Small (fromMean n total)
 small-mean few small x share = omega (arith, mul-le-mul few share)
 
 pub small-square : Small square

@@ -1,27 +1,28 @@
 -- What a probe answers is whether the pinned group has a plan. Assumes nothing.
 use Prim.Native.Nat.{ℕ, _-_, _*_, _≤_, _<_}
-use mathlib.Core.Bool.{Bool, true, false, _&&_}
+use mathlib.Core.Bool.{false}
 use mathlib.Core.List.{List}
-use mathlib.Core.Path.{_≡_, refl, sym, ap, _∙_}
+use mathlib.Core.Path.{_≡_, sym, ap, _∙_}
 use native.Mathlib.Nat.{mul-le-mul}
 use native.Mathlib.Omega.{arith, by-contra}
 use lib.Dec.{leb}
 use lib.ListN.{length}
 use borrow.Author.Tests.{le-leb, lt-leb, le-ltb}
 use Rattle.model.specs.Shares.{Ranges, Within, greatestShare, sum, sumOf}
-use Rattle.model.specs.Figures.{met, meets, deviation, spread}
+use Rattle.model.specs.Figures.{met, figuresOf, deviation, spread}
 use Rattle.model.specs.Levels.{clamped, totalAt, growth, topped, levelled}
 use Rattle.model.specs.Plans.{hasPlan}
+use Rattle.model.specs.declared.Figures.{Figures}
 use Rattle.model.specs.declared.Limits.{Limits}
 use Rattle.model.specs.Laws.Level.{totalAt-least, totalAt-greatest}
 use Rattle.model.specs.Laws.Levelled.{topped-within}
 use Rattle.model.specs.Laws.Lists.{sum-sumOf, within-at, within-length, ranges-at}
 use Rattle.model.specs.Laws.Spread.{cauchy-schwarz, sumOf-bound}
-use Rattle.model.specs.Laws.Transfer.{deviation-schur, spread-schur}
+use Rattle.model.specs.Laws.Tests.{right-fails}
 use Rattle.probe.specs.declared.rows.Row.{Row}
 use Rattle.probe.specs.Rows.{rowAt}
 use Rattle.probe.specs.Tables.{Sound, Table, Small, greatestPart, itself, fromMean, square, small-square}
-use Rattle.probe.specs.Pins.{Pin, Reached, pinned-span, reached-adds, reached-figure}
+use Rattle.probe.specs.Pins.{Pin, Reached, pinned-span, reached-adds, reached-figures}
 use Rattle.probe.specs.Probes.{pinnedTotal, pinned-total}
 
 -- a sum of parts over shares in the ranges is at most n times the greatest
@@ -38,26 +39,15 @@ total-itself : (lows highs : List ℕ) (w : ℕ) → totalAt lows highs w ≡ su
 unfolding totalAt
 total-itself lows highs w = sum-sumOf (clamped lows highs w)
 
--- a test of two fails where the second does
-right-fails : (a : Bool) {b : Bool} → b ≡ false → a && b ≡ false
-right-fails true e = e
-right-fails false e = refl
-
 module _ {lows highs lows′ highs′ : List ℕ} {total low high v : ℕ} (sound : Sound lows highs total) (pin : Pin lows highs low high v lows′ highs′) where
   module _ {m c w r : ℕ} (reached : Reached lows′ highs′ total m c w r) {d q : ℕ}
       (is-deviation : d ≡ sumOf (fromMean (length lows) total) (topped lows′ highs′ w r))
       (is-squares : q ≡ sumOf square (topped lows′ highs′ w r)) where
     -- the figures at the level reached are those of the pinned group's levelled shares
-    pub meets-reached : (limits : Limits) → met limits d (length lows * q - total * total) ≡ meets limits (length lows′) total (levelled lows′ highs′ total)
+    pub pinned-figures : record { deviation = record { 0 = d }; spread = record { 0 = length lows * q - total * total } }
+        ≡ figuresOf (length lows′) total (levelled lows′ highs′ total)
     unfolding deviation spread
-    meets-reached limits =
-        rw (
-          reached-figure (pin .ranges) reached (deviation (length lows′) total) (deviation-schur (length lows′) total),
-          reached-figure (pin .ranges) reached (spread (length lows′) total) (spread-schur (length lows′) total),
-          pin .count,
-          is-deviation,
-          is-squares,
-        )
+    pinned-figures = rw (reached-figures (pin .ranges) reached (length lows′), pin .count, is-deviation, is-squares)
 
     -- the spread does not go below zero, nor past what a number holds
     pub squares-enough : total * total ≤ length lows * q
@@ -101,13 +91,14 @@ module _ {lows highs lows′ highs′ : List ℕ} {total low high v : ℕ} (soun
     unfolding hasPlan
     too-little limits less = rw (right-fails (leb (sum lows′) total) (lt-leb total (sum highs′) (rw greatest-total less)))
 
-    -- where they do, the levelled shares decide
+    -- where they do, the figures of the levelled shares decide
     pub decided : (limits : Limits) → pinnedTotal (rowAt table 0) low high v ≤ total
         → total ≤ pinnedTotal (rowAt table (2 * length lows)) low high v
-        → hasPlan lows′ highs′ total limits ≡ meets limits (length lows′) total (levelled lows′ highs′ total)
+        → {figures : Figures} → figures ≡ figuresOf (length lows′) total (levelled lows′ highs′ total)
+        → met limits figures ≡ hasPlan lows′ highs′ total limits
     unfolding hasPlan
-    decided limits least greatest =
-        rw (le-leb (sum lows′) total (rw least-total least), le-leb total (sum highs′) (rw greatest-total greatest))
+    decided limits least greatest are =
+        rw (are, le-leb (sum lows′) total (rw least-total least), le-leb total (sum highs′) (rw greatest-total greatest))
 
 -- some ranges have v in place of what a member with this low and high has
 pub record Asked (lows highs : List ℕ) (low high v : ℕ) : Type 0 where
@@ -115,6 +106,6 @@ pub record Asked (lows highs : List ℕ) (low high v : ℕ) : Type 0 where
   pub pinnedHighs : List ℕ
   pub pin : Pin lows highs low high v pinnedLows pinnedHighs
 
--- the answer for such ranges: whether their levelled shares are within the limits
-pub record Meets (lows highs : List ℕ) (low high v total : ℕ) (limits : Limits) (answer : Bool) : Type 0 where
-  pub is : {lows′ highs′ : List ℕ} → Pin lows highs low high v lows′ highs′ → answer ≡ meets limits (length lows′) total (levelled lows′ highs′ total)
+-- the figures of the levelled shares in all such ranges
+pub record PinnedFigures (lows highs : List ℕ) (low high v total : ℕ) (figures : Figures) : Type 0 where
+  pub is : {lows′ highs′ : List ℕ} → Pin lows highs low high v lows′ highs′ → figures ≡ figuresOf (length lows′) total (levelled lows′ highs′ total)

@@ -4,24 +4,13 @@ use crate::rows::read_row;
 use crate::rows::write_row;
 use crate::table::first_row;
 use crate::table::next_row;
+use model::lists::copy;
 ghost use mathlib.Core.Path.{_≡_};
 ghost use Prim.Native.Nat.{_+_, _*_, _≤_};
 ghost use lib.ListN.{length};
 ghost use Rattle.probe.specs.Orders.{Ordered};
 ghost use Rattle.probe.specs.Tables.{Sound, Table};
 ghost use Rattle.probe.specs.Steps.{Risen};
-
-// Copies a list over another of the same length.
-pub fn copy(from: &[u64], to: &mut [u64])
-    requires { ⌜ length (now to) ≡ length (now from) ⌝ }
-    ensures { λ _. ⌜ now (to .exit) ≡ now (from .entry) ⌝ }
-{
-    let mut i: usize = 0;
-    while i < from.len() {
-        to[i] = from[i];
-        i += 1;
-    }
-}
 
 // Fills the table from the sorted bounds, row after row.
 fn fill(lows: &[u64], highs: &[u64], starts: &[u64], stops: &[u64], total: u64, table: &mut [u64])

@@ -1,8 +1,11 @@
 // The pinned group's level, from the table.
 use crate::rows::Row;
 use crate::rows::read_row;
+use model::levels::clamp;
+use model::levels::growth;
 ghost use mathlib.Core.Path.{_≡_};
 ghost use Prim.Native.Nat.{_+_, _-_, _≤_, _<_};
+ghost use Rattle.model.specs.Shares.{greatestShare, greatestTotal};
 ghost use Rattle.model.specs.Levels.{clamp, growth};
 ghost use Rattle.probe.specs.Rows.{rowAt};
 ghost use Rattle.probe.specs.Probes.{Pinnable, Probeable, Found, IntoReach, Divided, pinnedTotal};
@@ -12,33 +15,6 @@ pub struct Reach {
     pub growing: u64,
     pub level: u64,
     pub over: u64,
-}
-
-// A level moved into a range.
-pub fn clamp(low: u64, high: u64, v: u64) -> u64
-    requires { ⌜ low ≤ high ⌝ }
-    ensures { λ r. ⌜ r ≡ clamp low high v ⌝ }
-{
-    if v < low {
-        return low;
-    }
-    if high < v {
-        return high;
-    }
-    v
-}
-
-// Whether a member can take one copy more at a level: 1 or 0.
-fn growth(low: u64, high: u64, v: u64) -> u64
-    ensures { λ r. ⌜ r ≡ growth low high v ⌝ }
-{
-    if v < low {
-        return 0;
-    }
-    if high <= v {
-        return 0;
-    }
-    1
 }
 
 // T at a row's level of the group with v in place of a member's own.
@@ -112,7 +88,7 @@ pub fn last_within(
 // A value moved to where the other members can make up for it.
 pub fn into_reach(table: &[u64], last: usize, low: u64, high: u64, v: u64, total: u64) -> u64
     requires { ⌜ Probeable (now table) last low high v ⌝ }
-    requires { ⌜ total ≤ 256_000_000 ⌝ }
+    requires { ⌜ total ≤ greatestTotal ⌝ }
     requires { ⌜ pinnedTotal (rowAt (now table) 0) low high v ≤ total + v ⌝ }
     ensures { λ r. ⌜ IntoReach (now (table .entry)) last low high v total r ⌝ }
 {
@@ -131,7 +107,7 @@ pub fn into_reach(table: &[u64], last: usize, low: u64, high: u64, v: u64, total
 
 // The value of a member where the others are at a row.
 pub fn value_at(row: Row, low: u64, high: u64, total: u64) -> u64
-    requires { ⌜ (low ≤ high) × (high ≤ 1_000_000) × (total ≤ 256_000_000) ⌝ }
+    requires { ⌜ (low ≤ high) × (high ≤ greatestShare) × (total ≤ greatestTotal) ⌝ }
     requires { ⌜ row .total ≤ total + clamp low high (row .mark) ⌝ }
     ensures { λ r. ⌜ pinnedTotal row low high r ≡ total ⌝ }
 {

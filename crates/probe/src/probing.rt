@@ -1,13 +1,14 @@
 // Probes of pinned values on the breakpoint table of a group.
 use crate::figures::pinned_deviation;
 use crate::figures::pinned_squares;
-use crate::pins::clamp;
 use crate::pins::last_within;
 use crate::pins::pinned_total;
 use crate::pins::reach_from;
 use crate::rows::read_row;
+use model::Figures;
 use model::Limits;
 use model::Spread;
+use model::levels::clamp;
 ghost use mathlib.Core.Path.{_≡_};
 ghost use Prim.Native.Nat.{_*_, _≤_, _<_};
 ghost use lib.ListN.{length, getD};
@@ -16,10 +17,10 @@ ghost use Rattle.model.specs.Plans.{hasPlan, taken};
 ghost use Rattle.probe.specs.Rows.{rowAt};
 ghost use Rattle.probe.specs.Tables.{Sound, Table};
 ghost use Rattle.probe.specs.Probes.{Found, InReach, LevelledOn, pinnedTotal};
-ghost use Rattle.probe.specs.Verdicts.{Asked, Meets};
+ghost use Rattle.probe.specs.Verdicts.{Asked, PinnedFigures};
 
-// Whether the pinned group's levelled shares are within the limits, from the row below its level.
-fn met_at(
+// The figures of the pinned group's levelled shares, from the row below its level.
+fn pinned_figures(
     lows: &[u64],
     highs: &[u64],
     table: &[u64],
@@ -28,14 +29,13 @@ fn met_at(
     high: u64,
     v: u64,
     total: u64,
-    limits: Limits,
-) -> bool
+) -> Figures
     requires { ⌜ Sound (now lows) (now highs) total ⌝ }
     requires { ⌜ Table (now lows) (now highs) total (now table) ⌝ }
     requires { ⌜ Asked (now lows) (now highs) low high v ⌝ }
     requires { ⌜ Found (now table) (2 * length (now lows)) low high v total k ⌝ }
     requires { ⌜ total ≤ pinnedTotal (rowAt (now table) (2 * length (now lows))) low high v ⌝ }
-    ensures { λ r. ⌜ Meets (now (lows .entry)) (now (highs .entry)) low high v total limits r ⌝ }
+    ensures { λ r. ⌜ PinnedFigures (now (lows .entry)) (now (highs .entry)) low high v total r ⌝ }
 {
     let count = lows.len() as u64;
     let row = read_row(table, k);
@@ -44,8 +44,10 @@ fn met_at(
     let own = clamp(low, high, row.mark);
     let deviation = pinned_deviation(count, total, row, own, v, reach);
     let squares = pinned_squares(row, own, v, reach);
-    let spread = Spread::from_squares(count, squares, total);
-    limits.met(deviation, spread)
+    Figures {
+        deviation,
+        spread: Spread::from_squares(count, squares, total),
+    }
 }
 
 // Whether the group with member i pinned to v, which the others can make up for, has a plan, from the row below its level.
@@ -66,7 +68,8 @@ pub fn taken_at(
     requires { ⌜ Found (now table) (2 * length (now lows)) (getD (now lows) i 0) (getD (now highs) i 0) v total row ⌝ }
     ensures { λ r. ⌜ r ≡ taken (now (lows .entry)) (now (highs .entry)) total limits i v ⌝ }
 {
-    met_at(lows, highs, table, row, lows[i], highs[i], v, total, limits)
+    let figures = pinned_figures(lows, highs, table, row, lows[i], highs[i], v, total);
+    limits.met(figures)
 }
 
 // Whether some plan takes a value, and the row below the level found for it.
@@ -96,8 +99,11 @@ pub fn probe(
     let low = lows[i];
     let high = highs[i];
     let row = last_within(table, 2 * lows.len(), low, high, v, total, near);
-    let taken = met_at(lows, highs, table, row, low, high, v, total, limits);
-    Probed { taken, row }
+    let figures = pinned_figures(lows, highs, table, row, low, high, v, total);
+    Probed {
+        taken: limits.met(figures),
+        row,
+    }
 }
 
 // A level with the copies left over there, and the row below it.
@@ -141,5 +147,6 @@ pub fn has_plan(
     requires { ⌜ Found (now table) (2 * length (now lows)) 0 0 0 total row ⌝ }
     ensures { λ r. ⌜ r ≡ hasPlan (now (lows .entry)) (now (highs .entry)) total limits ⌝ }
 {
-    met_at(lows, highs, table, row, 0, 0, 0, total, limits)
+    let figures = pinned_figures(lows, highs, table, row, 0, 0, 0, total);
+    limits.met(figures)
 }

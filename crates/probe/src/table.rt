@@ -1,5 +1,6 @@
 // Building the breakpoint table of a group.
 use crate::rows::Row;
+use model::numbers::apart;
 ghost use mathlib.Core.Path.{_≡_};
 ghost use Prim.Native.Nat.{suc, _+_, _*_, _≤_, _<_};
 ghost use Rattle.model.specs.Shares.{greatestShare};
@@ -14,11 +15,7 @@ pub fn from_mean(count: u64, total: u64, x: u64) -> u64
     requires { ⌜ x ≤ suc greatestShare ⌝ }
     ensures { λ r. ⌜ r ≡ fromMean count total x ⌝ }
 {
-    let scaled = count * x;
-    if scaled <= total {
-        return total - scaled;
-    }
-    scaled - total
+    apart(count * x, total)
 }
 
 // A share's part of the sum of squares.

@@ -6,8 +6,7 @@ use mathlib.Core.Path.{_≡_, refl, ap, _∙_}
 use Rattle.job.specs.Job.{holds}
 use Rattle.job.specs.TextLines.{linesOf, OneLine, lines-next, line-ahead, number-ahead}
 use Rattle.model.specs.Groups.{Group}
-use Rattle.model.specs.declared.Deviation.{Deviation}
-use Rattle.model.specs.declared.Spread.{Spread}
+use Rattle.model.specs.declared.Figures.{Figures}
 use Rattle.text.specs.Numbers.{printNumber}
 use Rattle.text.specs.Words.{bytes}
 use Rattle.print.specs.Items.{item, items, form, line}
@@ -39,9 +38,9 @@ unfolding line flatten holds
 line-one word vs none = form-ahead word vs none (record { body = bytes ")"; ended = refl; inside = refl })
 
 -- so does a group's
-group-one : (number level : ℕ) (deviation : Deviation) (spread : Spread) (shares : List ℕ) → OneLine (groupLine number level deviation spread shares)
+group-one : (number level : ℕ) (figures : Figures) (shares : List ℕ) → OneLine (groupLine number level figures shares)
 unfolding groupLine flatten holds
-group-one number level deviation spread shares =
+group-one number level figures shares =
     form-ahead (bytes "(group") _ refl (form-ahead (bytes " (plan") shares refl (record { body = bytes "))"; ended = refl; inside = refl }))
 
 -- the unit lines ahead of other bytes
@@ -60,7 +59,7 @@ cut-groups : (number : ℕ) (table : Table) (groups : List Group) → linesOf (f
 unfolding groupLines levelledLine flatten linesOf
 cut-groups number table [] = refl
 cut-groups number table (group ∷ groups) =
-    lines-next (group-one number _ _ _ _) _ ∙ ap (λ (ls : List (List ℕ)). lineOf number table group ∷ ls) (cut-groups (suc number) table groups)
+    lines-next (group-one number _ _ _) _ ∙ ap (λ (ls : List (List ℕ)). lineOf number table group ∷ ls) (cut-groups (suc number) table groups)
 
 -- the lines of a report
 pub report-cut : (groups : List Group) (table : Table) (passes : ℕ) → linesOf (reportOf groups table passes) ≡ reportLines groups table passes

@@ -3,7 +3,7 @@ use Prim.Native.Nat.{ℕ, suc, _≤_}
 use mathlib.Core.List.{List, [], _∷_, List·Memᴰ, List·Memᴰ·head, List·Memᴰ·tail}
 use mathlib.Core.Path.{_≡_, refl}
 use native.Mathlib.Nat.{le-refl}
-use Rattle.model.specs.Figures.{deviation, spread, above}
+use Rattle.model.specs.Figures.{above, figuresOf}
 use Rattle.model.specs.Groups.{Group}
 use Rattle.model.specs.Laws.Lists.{ranges-at}
 use Rattle.model.specs.Laws.Plans.{found-plan, plan-found, least-above}
@@ -31,8 +31,7 @@ pub data EvenLines (table : Table) : ℕ → List Group → List (List ℕ) → 
       → EvenLines table (suc number) groups lines
       → EvenLines table number (group ∷ groups) (groupLine number
       (level (lowsOf table group) (highsOf table group) (group .total))
-      (record { 0 = deviation (size group) (group .total) shares })
-      (record { 0 = spread (size group) (group .total) shares })
+      (figuresOf (size group) (group .total) shares)
       shares ∷ lines)
 
 module _ {groups : List Group} {table : Table} (sound : Sound groups table) (consistent : Consistent groups table) where

@@ -5,18 +5,18 @@ use mathlib.Core.Path.{_≡_, refl}
 use native.Mathlib.Nat.{mul-le-mul}
 use native.Mathlib.Omega.{arith}
 use lib.ListN.{length, getD, length-append}
-use Rattle.model.specs.Figures.{deviation, spread}
+use Rattle.model.specs.Figures.{spread, figuresOf}
 use Rattle.model.specs.Groups.{Group}
 use Rattle.model.specs.Laws.Level.{level-share}
 use Rattle.model.specs.Laws.Levelled.{levelled-within}
 use Rattle.model.specs.Levels.{level, levelled}
 use Rattle.model.specs.Shares.{Ranges, Within, sumOf}
-use Rattle.model.specs.declared.Deviation.{Deviation}
-use Rattle.model.specs.declared.Spread.{Spread}
+use Rattle.model.specs.declared.Figures.{Figures}
 use Rattle.text.specs.Words.{bytes}
 use Rattle.group.specs.Bounds.{share-small, squares-small, deviation-small}
 use Rattle.group.specs.Sound.{Sound, HasShares, levelled-length, highs-small}
-use Rattle.job.specs.Job.{mostBytes, memberships}
+use Rattle.groups.specs.Flat.{memberships}
+use Rattle.job.specs.Job.{mostBytes}
 use Rattle.works.specs.Laws.Members.{gather-length}
 use Rattle.works.specs.Tables.{Table, lowsOf, highsOf}
 use Rattle.print.specs.Items.{items, form, line}
@@ -72,28 +72,30 @@ unit-lengths (Ranges.also {l} {h} {ls} {hs} p q ranges) number few =
     )
 
 -- a group's line, with numbers of so many digits
-group-length : (number level : ℕ) (deviation : Deviation) (spread : Spread) (shares : List ℕ) → number < 10 ^ 2 → level < 10 ^ 7
-    → deviation .0 < 10 ^ 11 → spread .0 < 10 ^ 17 → ((i : ℕ) → i < length shares → getD shares i 0 < 10 ^ 7)
-    → length (groupLine number level deviation spread shares) ≤ 56 + 8 * length shares
+group-length : (number level : ℕ) (figures : Figures) (shares : List ℕ) → number < 10 ^ 2 → level < 10 ^ 7
+    → figures .deviation .0 < 10 ^ 11 → figures .spread .0 < 10 ^ 17 → ((i : ℕ) → i < length shares → getD shares i 0 < 10 ^ 7)
+    → length (groupLine number level figures shares) ≤ 56 + 8 * length shares
 unfolding groupLine flatten
-group-length number level deviation spread shares p q r s small =
-    let opening : List ℕ = form (bytes "(group") (number ∷ level ∷ deviation .0 ∷ spread .0 ∷ []) in
+group-length number level figures shares p q small-deviation small-spread small =
+    let d : ℕ = figures .deviation .0 in
+    let s : ℕ = figures .spread .0 in
+    let opening : List ℕ = form (bytes "(group") (number ∷ level ∷ d ∷ s ∷ []) in
     let plan : List ℕ = form (bytes " (plan") shares in
     omega (
       arith,
       length-append opening (plan ++ bytes "))\n"),
       length-append plan (bytes "))\n"),
-      form-length (bytes "(group") (number ∷ level ∷ deviation .0 ∷ spread .0 ∷ []),
+      form-length (bytes "(group") (number ∷ level ∷ d ∷ s ∷ []),
       form-length (bytes " (plan") shares,
-      items-more number (level ∷ deviation .0 ∷ spread .0 ∷ []),
-      items-more level (deviation .0 ∷ spread .0 ∷ []),
-      items-more (deviation .0) (spread .0 ∷ []),
-      items-more (spread .0) [],
+      items-more number (level ∷ d ∷ s ∷ []),
+      items-more level (d ∷ s ∷ []),
+      items-more d (s ∷ []),
+      items-more s [],
       items-none,
       item-length 1 number p,
       item-length 6 level q,
-      item-length 10 (deviation .0) r,
-      item-length 16 (spread .0) s,
+      item-length 10 d small-deviation,
+      item-length 16 s small-spread,
       items-length 6 shares small,
     )
 
@@ -109,8 +111,7 @@ levelled-line-length {lows} {highs} {total} shares number p =
       arith,
       levelled-length sound total,
       group-length number (level lows highs total)
-          (record { 0 = deviation (length lows) total xs })
-          (record { 0 = spread (length lows) total xs })
+          (figuresOf (length lows) total xs)
           xs
           p
           (omega (arith, level-share lows highs total))

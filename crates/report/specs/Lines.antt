@@ -1,8 +1,7 @@
 -- The lines of a report. Assumes nothing.
 use Prim.Native.Nat.{ℕ}
 use mathlib.Core.List.{List, [], _∷_, flatten}
-use Rattle.model.specs.declared.Deviation.{Deviation}
-use Rattle.model.specs.declared.Spread.{Spread}
+use Rattle.model.specs.declared.Figures.{Figures}
 use Rattle.text.specs.Words.{bytes}
 use Rattle.print.specs.Items.{form, line}
 
@@ -15,9 +14,13 @@ abbrev pub unitLine : ℕ → ℕ → ℕ → List ℕ
 unitLine number low high = line (bytes "(unit") (number ∷ low ∷ high ∷ [])
 
 -- 01: "(group 1 5 0 0 (plan 5 5))": "group number, level, deviation, spread, levelled shares"
-unfoldable pub groupLine : ℕ → ℕ → Deviation → Spread → List ℕ → List ℕ
-groupLine number level deviation spread shares =
-    flatten (form (bytes "(group") (number ∷ level ∷ deviation .0 ∷ spread .0 ∷ []) ∷ form (bytes " (plan") shares ∷ bytes "))\n" ∷ [])
+unfoldable pub groupLine : ℕ → ℕ → Figures → List ℕ → List ℕ
+groupLine number level figures shares =
+    flatten
+    (form (bytes "(group") (number ∷ level ∷ figures .deviation .0 ∷ figures .spread .0 ∷ [])
+    ∷ form (bytes " (plan") shares
+    ∷ bytes "))\n"
+    ∷ [])
 
 -- 01: "(refused 12 1)": "number, place"
 abbrev pub refusalLine : ℕ → ℕ → List ℕ

@@ -7,8 +7,7 @@ use native.Mathlib.Nat.{zero-add, suc-add, add-zero, add-suc, suc-inj}
 use native.Mathlib.Omega.{arith}
 use lib.ListN.{length, getElem?}
 use Rattle.model.specs.Groups.{Group}
-use Rattle.model.specs.declared.Deviation.{Deviation}
-use Rattle.model.specs.declared.Spread.{Spread}
+use Rattle.model.specs.declared.Figures.{Figures}
 use Rattle.text.specs.Words.{bytes}
 use Rattle.print.specs.Items.{item, items, form}
 use Rattle.works.specs.Tables.{Table, units}
@@ -29,18 +28,18 @@ unfolding form items flatten
 first-item word v vs = rw (append-nil (item v ++ flatten (map item vs)))
 
 -- a group's line is its number and what follows, which is the same with every number
-line-past : (level : ℕ) (deviation : Deviation) (spread : Spread) (shares : List ℕ)
-    → (past : List ℕ) × ((number : ℕ) → groupLine number level deviation spread shares ≡ numbered number past)
+line-past : (level : ℕ) (figures : Figures) (shares : List ℕ)
+    → (past : List ℕ) × ((number : ℕ) → groupLine number level figures shares ≡ numbered number past)
 unfolding groupLine flatten
-line-past level deviation spread shares = (
-  flatten (items (level ∷ deviation .0 ∷ spread .0 ∷ []) ∷ form (bytes " (plan") shares ∷ bytes "))\n" ∷ []),
+line-past level figures shares = (
+  flatten (items (level ∷ figures .deviation .0 ∷ figures .spread .0 ∷ []) ∷ form (bytes " (plan") shares ∷ bytes "))\n" ∷ []),
   λ number. rw first-item (ap (λ (xs : List ℕ). bytes "(group" ++ xs) (append-assoc (item number) _ _)),
 )
 
 -- so is its line in a table
 pub line-numbered : (table : Table) (group : Group) → (past : List ℕ) × ((number : ℕ) → lineOf number table group ≡ numbered number past)
 unfolding levelledLine
-line-numbered table group = line-past _ _ _ _
+line-numbered table group = line-past _ _ _
 
 -- what stands behind other lines
 behind : (xs ys : List (List ℕ)) (k : ℕ) → getElem? (xs ++ ys) (length xs + k) ≡ getElem? ys k

@@ -3,10 +3,11 @@ use Prim.Native.Nat.{ℕ, suc, _≤_}
 use mathlib.Core.List.{List, List·Memᴰ}
 use mathlib.Core.Path.{_≡_}
 use lib.ListN.{length}
+use Rattle.model.specs.Shares.{greatestTotal}
 use Rattle.model.specs.Groups.{Group}
 use Rattle.group.specs.Sound.{HasShares, greatestCount}
-use Rattle.job.specs.Job.{greatestTotal, mostUnits, mostGroups, mostMemberships, memberships}
-use Rattle.works.specs.Flat.{groupsIn, Holds}
+use Rattle.groups.specs.Flat.{memberships, groupsIn, Holds}
+use Rattle.job.specs.Job.{mostUnits, mostGroups, mostMemberships}
 use Rattle.works.specs.Tables.{Table, Valid, Named, units, lowsOf, highsOf}
 
 -- a group that can be levelled in the table: its members are units of it, and shares with its total exist there

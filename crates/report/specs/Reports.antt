@@ -2,7 +2,7 @@
 use Prim.Native.Nat.{ℕ, suc}
 use mathlib.Core.List.{List, [], _∷_, flatten}
 use lib.ListN.{length}
-use Rattle.model.specs.Figures.{deviation, spread}
+use Rattle.model.specs.Figures.{figuresOf}
 use Rattle.model.specs.Groups.{Group}
 use Rattle.model.specs.Levels.{level, levelled}
 use Rattle.works.specs.Tables.{Table, lowsOf, highsOf}
@@ -19,10 +19,7 @@ unitLines number (l ∷ lows) (h ∷ highs) = unitLine number l h ∷ unitLines 
 unfoldable pub levelledLine : ℕ → List ℕ → List ℕ → ℕ → List ℕ
 levelledLine number lows highs total =
     let shares : List ℕ = levelled lows highs total in
-    groupLine number (level lows highs total)
-    (record { 0 = deviation (length lows) total shares })
-    (record { 0 = spread (length lows) total shares })
-    shares
+    groupLine number (level lows highs total) (figuresOf (length lows) total shares) shares
 
 -- the line of a group in a table; 01: "levelled shares within the settled table"
 abbrev pub lineOf : ℕ → Table → Group → List ℕ

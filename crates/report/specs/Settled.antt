@@ -1,5 +1,5 @@
 -- What a settling leaves can be reported: shares with each group's total exist, and the report fits its buffer. Assumes nothing.
-use Prim.Native.Nat.{ℕ, zero, suc, _≤_}
+use Prim.Native.Nat.{ℕ, _≤_}
 use mathlib.Core.List.{List, _++_}
 use mathlib.Core.Path.{_≡_, refl, ap, _∙_}
 use native.Mathlib.Omega.{arith}
@@ -8,12 +8,13 @@ use lib.Seq.{take-at, length-take-le}
 use Rattle.group.specs.Sound as one
 use Rattle.group.specs.declared.Check.{Check}
 use Rattle.group.specs.declared.Check.the-variants.{Passed, Failed}
-use Rattle.job.specs.Job.{mostUnits, mostGroups, mostMemberships, memberships}
+use Rattle.groups.specs.Flat.{memberships, groupsIn}
+use Rattle.groups.specs.Laws.Reading.{groups-counted}
+use Rattle.job.specs.Job.{mostUnits, mostGroups, mostMemberships}
 use Rattle.model.specs.Groups.{Group}
 use Rattle.model.specs.Laws.Levelled.{within-sum-low, within-sum-high}
 use Rattle.works.specs.Calls.{Settlement, settlement, checkTable, leaving, afterCheck, settleJob}
 use Rattle.works.specs.Consistency.{SoundGroup, Sound, Consistent, PlanIn}
-use Rattle.works.specs.Flat.{afterFirst, groupsIn}
 use Rattle.works.specs.Laws.Checked.{passed-room, passed-opening}
 use Rattle.works.specs.Laws.Few.{size-few}
 use Rattle.works.specs.Laws.Inside.{widths-sums}
@@ -125,18 +126,12 @@ module _ {flat : List ℕ} {count unitCount : ℕ} (prepared : Prepared flat cou
           absurd (let z : _≡_ {A = ℕ} 0 1 = cc in omega arith)
       by-check Passed e is = by-outcome (settle groups opening) refl e is
 
--- a flat list gives as many groups as are asked
-groups-counted : (count : ℕ) (flat : List ℕ) → length (groupsIn count flat) ≡ count
-unfolding groupsIn
-groups-counted zero flat = refl
-groups-counted (suc count) flat = ap suc (groups-counted count (afterFirst flat))
-
 -- so the table that it leaves can be reported
 pub settles-reportable : {flat : List ℕ} {count unitCount passes : ℕ} {lows highs nextLows nextHighs : List ℕ} → WithinLimits flat count
     → Settles (groupsIn count flat) unitCount lows highs nextLows nextHighs passes
     → Reportable (groupsIn count flat) (tableOf (take unitCount nextLows) (take unitCount nextHighs)) passes
 settles-reportable {flat} {count} limits settles =
     reportable (settles .sound) (settles .few)
-    (omega (arith, groups-counted count flat, limits .few-groups))
+    (omega (arith, groups-counted count 0 flat, limits .few-groups))
     (limits .few-memberships)
     (settles .settles)

@@ -14,9 +14,9 @@ use Rattle.job.specs.declared.Reading.the-variants as job
 use Rattle.model.specs.Groups.{Group}
 use Rattle.model.specs.declared.Refusal.{Refusal}
 use Rattle.works.specs.Calls.{Settlement, settlement, settleJob}
-use Rattle.works.specs.Flat.{groupsIn}
+use Rattle.groups.specs.Flat.{groupsIn}
+use Rattle.groups.specs.Laws.Reading.{flatten-groups}
 use Rattle.works.specs.Laws.Accepted.{read-settles, refused-settles}
-use Rattle.works.specs.Laws.Flat.{flatten-groups}
 use Rattle.works.specs.Tables.{tableOf}
 use Rattle.works.specs.declared.Settling.the-variants as works
 use Rattle.report.specs.Calls.{reported, reportSettled, reportText}

@@ -1,8 +1,9 @@
 // Settling a job text over a table and reporting what it leaves.
 use crate::Reporting;
-use crate::groups::put_group_lines;
+use crate::group_lines::put_group_lines;
 use crate::lines::put_settled_line;
 use crate::lines::put_unit_lines;
+use groups::MOST_FLAT;
 use job::MOST_BYTES;
 use job::Reading;
 use job::scan;
@@ -13,12 +14,12 @@ ghost use Prim.Native.Nat.{_≤_};
 ghost use mathlib.Core.List.{_++_};
 ghost use mathlib.Core.Path.{_≡_};
 ghost use lib.ListN.{length, drop};
-ghost use Rattle.job.specs.Job.{mostBytes, mostFlat};
+ghost use Rattle.groups.specs.Flat.{mostFlat, Holds, groupsIn};
+ghost use Rattle.job.specs.Job.{mostBytes};
 ghost use Rattle.report.specs.Calls.{reported, reportSettled, reportText};
 ghost use Rattle.report.specs.Ready.{Reportable, WithinLimits, Workspace};
 ghost use Rattle.report.specs.Reports.{reportOf};
 ghost use Rattle.works.specs.Calls.{settleJob};
-ghost use Rattle.works.specs.Flat.{Holds, groupsIn};
 ghost use Rattle.works.specs.Ready.{Prepared};
 ghost use Rattle.works.specs.Tables.{tableOf};
 
@@ -156,7 +157,7 @@ pub fn report(
 {
     let mut member_lows = [0u64; 256];
     let mut member_highs = [0u64; 256];
-    let mut flat = [0u64; 4352];
+    let mut flat = [0u64; MOST_FLAT];
     let mut plan = [0u64; 256];
     report_by(
         text,

@@ -2,7 +2,7 @@
 use model::Refusal;
 
 pub mod calls;
-pub mod groups;
+pub mod group_lines;
 pub mod lines;
 pub mod program;
 

@@ -1,6 +1,5 @@
 // The lines of a report, written into a buffer.
-use model::Deviation;
-use model::Spread;
+use model::Figures;
 use print::put_form;
 use print::put_line;
 use print::put_word;
@@ -49,18 +48,17 @@ pub fn put_group_line(
     at: usize,
     number: u64,
     level: u64,
-    deviation: Deviation,
-    spread: Spread,
+    figures: Figures,
     shares: &[u64],
 ) -> usize
-    requires { ⌜ Room (now buffer) at (groupLine number level deviation spread (now shares)) ⌝ }
-    ensures { λ r. ⌜ Wrote (groupLine number level deviation spread (now (shares .entry))) (now (buffer .entry)) at (now (buffer .exit)) r ⌝ }
+    requires { ⌜ Room (now buffer) at (groupLine number level figures (now shares)) ⌝ }
+    ensures { λ r. ⌜ Wrote (groupLine number level figures (now (shares .entry))) (now (buffer .entry)) at (now (buffer .exit)) r ⌝ }
 {
     let mut next = put_form(
         buffer,
         at,
         b"(group",
-        &[number, level, deviation.0, spread.0],
+        &[number, level, figures.deviation.0, figures.spread.0],
     );
     next = put_form(buffer, next, b" (plan", shares);
     put_word(buffer, next, b"))\n")

@@ -4,4 +4,3 @@ pub mod Parsed
 pub mod Numbers
 pub mod Printed
 pub mod Spots
-pub mod Tests

@@ -10,7 +10,7 @@ use native.Mathlib.Nat.{div-lt-self}
 use native.Mathlib.Decide.{decLt}
 use borrow.Author.Tests.{le-leb, ne-eqb, lt-ltb, le-ltb, leb-true, eqb-true, eqb-false}
 use Rattle.model.specs.Shares.{pick}
-use Rattle.text.specs.Tests.{and-left, and-right}
+use Rattle.model.specs.Laws.Tests.{both-left, both-right}
 use Rattle.text.specs.Kinds.{kindOf}
 use Rattle.text.specs.Parsed.{Parsed, parsed, failed, mapped, word, then-parsed, mapped-parsed, word-parsed}
 use Rattle.text.specs.Numbers.{isDigit, digits, number, numberAfter, digitsOf, printNumber, held}
@@ -28,7 +28,7 @@ by-tests false false false false false h = cc
 pub digit-byte : (b : ℕ) → isDigit (kindOf b) ≡ true → (48 ≤ b) × (b ≤ 57)
 digit-byte b h =
     let t : leb 48 b && leb b 57 ≡ true = by-tests (eqb b 40) (eqb b 41) (eqb b 32) (leb 48 b && leb b 57) (leb 97 b && leb b 122) h in
-    (leb-true 48 b (and-left (leb 48 b) (leb b 57) t), leb-true b 57 (and-right (leb 48 b) (leb b 57) t))
+    (leb-true 48 b (both-left (leb 48 b) (leb b 57) t), leb-true b 57 (both-right (leb 48 b) (leb b 57) t))
 
 -- and a byte from 48 to 57 is a digit
 pub byte-digit : (b : ℕ) → 48 ≤ b → b ≤ 57 → kindOf b ≡ Digit

@@ -1,6 +1,5 @@
 -- The laws of settling, a file for each topic.
 pub mod Members
-pub mod Flat
 pub mod Few
 pub mod Writing
 pub mod Parts

@@ -1,5 +1,4 @@
 pub mod Tables
-pub mod Flat
 pub mod Settling
 pub mod Answers
 pub mod Calls

@@ -7,7 +7,7 @@ use Rattle.group.specs.Sound.{greatestCount}
 use Rattle.model.specs.Groups.{Group}
 use Rattle.model.specs.declared.Limits.{Limits}
 use Rattle.works.specs.Consistency.{SoundGroup, Sound}
-use Rattle.works.specs.Flat.{groupsIn, Holds}
+use Rattle.groups.specs.Flat.{groupsIn, Holds}
 use Rattle.works.specs.Tables.{Table, Valid, units}
 
 -- a group of this total, these limits and these members

@@ -3,6 +3,7 @@ use crate::Settling;
 use crate::passes::settle_core;
 use group::Check;
 use group::checks::check_lists;
+use groups::MOST_FLAT;
 use job::Reading;
 use job::scan;
 use model::Refusal;
@@ -10,9 +11,9 @@ ghost use mathlib.Core.Path.{_≡_};
 ghost use Prim.Native.Nat.{_≤_};
 ghost use lib.ListN.{length};
 ghost use Rattle.group.specs.Sound.{greatestCount};
-ghost use Rattle.job.specs.Job.{mostUnits, mostFlat};
+ghost use Rattle.groups.specs.Flat.{mostFlat, groupsIn};
+ghost use Rattle.job.specs.Job.{mostUnits};
 ghost use Rattle.works.specs.Calls.{settlement, hasRoom, checkTable, settleJob, settleText};
-ghost use Rattle.works.specs.Flat.{groupsIn};
 ghost use Rattle.works.specs.Ready.{Prepared};
 
 // Whether lists of these lengths are long enough for the units.
@@ -101,7 +102,7 @@ pub fn settle(text: &[u8], lows: &mut [u64], highs: &mut [u64], scratch: &mut [u
 {
     let mut found_lows = [0u64; 256];
     let mut found_highs = [0u64; 256];
-    let mut flat = [0u64; 4352];
+    let mut flat = [0u64; MOST_FLAT];
     settle_by(
         text,
         lows,

@@ -4,13 +4,14 @@ use crate::tables::restore;
 use crate::tables::save;
 use crate::tables::width_of;
 use crate::turns::take_turn;
+use groups::group_at;
 use model::Turn;
 ghost use Prim.Native.Nat.{_+_, _≤_};
 ghost use mathlib.Core.Path.{_≡_};
 ghost use lib.ListN.{length};
 ghost use Rattle.model.specs.Known.{refusedBy};
 ghost use Rattle.works.specs.Answers.{answerOf, tableAfter};
-ghost use Rattle.works.specs.Flat.{groupsIn};
+ghost use Rattle.groups.specs.Flat.{groupsIn};
 ghost use Rattle.works.specs.Ready.{Workspace, Opening};
 ghost use Rattle.works.specs.Settling.{settle};
 ghost use Rattle.works.specs.Tables.{tableOf};
@@ -48,13 +49,14 @@ fn run_passes(
         let mut at: usize = 0;
         place = 0;
         while place < groups {
-            let turn = take_turn(&flat[at..], lows, highs, member_lows, member_highs);
+            let group = group_at(flat, at);
+            let turn = take_turn(flat, group, lows, highs, member_lows, member_highs);
             place += 1;
             let Turn::Narrowed = turn else {
                 number = number_of(turn);
                 break 'passes;
             };
-            at += 4 + flat[at + 3] as usize;
+            at = group.next;
         }
         if width_of(lows, highs) == before {
             return Settling::Settled(passes);

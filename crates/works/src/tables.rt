@@ -1,22 +1,11 @@
-// Lists of a table's numbers: copied, and the sum of its widths.
+// Lists of a table's numbers: saved and restored, and the sum of its widths.
+use model::lists::copy;
 ghost use Prim.Native.Nat.{_+_, _≤_};
 ghost use mathlib.Core.List.{_++_};
 ghost use mathlib.Core.Path.{_≡_};
 ghost use lib.ListN.{length, take, drop};
 ghost use Rattle.group.specs.Sound.{Sound};
 ghost use Rattle.works.specs.Tables.{widths};
-
-// Writes numbers over a list.
-pub fn copy(from: &[u64], to: &mut [u64])
-    requires { ⌜ length (now to) ≡ length (now from) ⌝ }
-    ensures { λ _. ⌜ now (to .exit) ≡ now (from .entry) ⌝ }
-{
-    let mut i: usize = 0;
-    while i < from.len() {
-        to[i] = from[i];
-        i += 1;
-    }
-}
 
 // The sum of high − low.
 pub fn width_of(lows: &[u64], highs: &[u64]) -> u64

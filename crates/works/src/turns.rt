@@ -2,26 +2,16 @@
 use crate::members::gather;
 use crate::members::scatter;
 use group::ranges::narrow_core;
-use model::Limit;
+use groups::Stored;
 use model::Limits;
 use model::Turn;
 ghost use Prim.Native.Nat.{_+_, _≤_};
 ghost use mathlib.Core.Path.{_≡_};
-ghost use lib.ListN.{length, getD};
-ghost use Rattle.works.specs.Flat.{limitOf, groupAt};
+ghost use lib.ListN.{length};
+ghost use Rattle.groups.specs.Flat.{groupIn};
 ghost use Rattle.works.specs.Ready.{groupOf, Turning, Room, Workspace};
 ghost use Rattle.works.specs.Settling.{revisedBy, revise};
 ghost use Rattle.works.specs.Tables.{tableOf};
-
-// The limit that a number stands for: 0 is any.
-fn limit_of(code: u64) -> Limit
-    ensures { λ r. ⌜ r ≡ limitOf code ⌝ }
-{
-    if code == 0 {
-        return Limit::Any;
-    }
-    Limit::AtMost(code - 1)
-}
 
 // The turn of a group with these members: gathers their ranges, narrows them and writes them back.
 fn narrow_members(
@@ -48,28 +38,28 @@ fn narrow_members(
     turn
 }
 
-// The turn of the group at the start of a flat list.
+// The turn of a group of a flat list.
 pub fn take_turn(
-    group: &[u64],
+    flat: &[u64],
+    group: Stored,
     lows: &mut [u64],
     highs: &mut [u64],
     member_lows: &mut [u64],
     member_highs: &mut [u64],
 ) -> Turn
-    requires { ⌜ Turning (tableOf (now lows) (now highs)) (groupAt (now group)) ⌝ }
-    requires { ⌜ 4 + getD (now group) 3 0 ≤ length (now group) ⌝ }
+    requires { ⌜ Turning (tableOf (now lows) (now highs)) (groupIn (now flat) group) ⌝ }
+    requires { ⌜ group .from + group .count ≤ length (now flat) ⌝ }
     requires { ⌜ Workspace (now «member_lows») (now «member_highs») ⌝ }
-    ensures { λ r. ⌜ revisedBy r (tableOf (now (lows .exit)) (now (highs .exit))) ≡ revise (tableOf (now (lows .entry)) (now (highs .entry))) (groupAt (now (group .entry))) ⌝ }
+    ensures { λ r. ⌜ revisedBy r (tableOf (now (lows .exit)) (now (highs .exit))) ≡ revise (tableOf (now (lows .entry)) (now (highs .entry))) (groupIn (now (flat .entry)) group) ⌝ }
 {
-    let count = group[3] as usize;
-    let limits = Limits {
-        deviation: limit_of(group[1]),
-        spread: limit_of(group[2]),
-    };
-    let end = 4 + count;
+    let total = group.total;
+    let limits = group.limits;
+    let from = group.from;
+    let count = group.count;
+    let end = from + count;
     narrow_members(
-        &group[4..end],
-        group[0],
+        &flat[from..end],
+        total,
         limits,
         lows,
         highs,

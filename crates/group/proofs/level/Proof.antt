@@ -3,7 +3,7 @@ use borrow.Author.Needs.{needs}
 use mathlib.Core.Path.{_≡_, refl}
 use lib.Dec.{leb}
 use lib.ListN.{length}
-use Rattle.group.specs.Sound.{greatestTotal}
+use Rattle.model.specs.Shares.{greatestTotal}
 use Rattle.group.specs.Checks.{checkLists}
 use Rattle.group.specs.Findings.{check-exactly, passed-sound}
 use Rattle.group.specs.Levelling.{levelling}

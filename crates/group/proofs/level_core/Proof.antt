@@ -78,10 +78,10 @@ same-length c = search needs
 returns-3 : tie.Need-returns-3
 unfolding levelledTo
 returns-3 c =
-    let known = c .before .before .before .before .before .before .before .before .before in
+    let known = c .before .before .before .before .before .before .before in
     let levels = known .before .before .before in
     let s = start (levels .before) in
-    let figures = c .before .before .before .before .before .before in
+    let figures = c .before .before .before .before in
     let left = figures .before .remainder-at .result in
     let shares : List ℕ = topped (s .args .lows .now) (s .args .highs .now) (levels .level-at .result) left in
     let found : shares ≡ levelled (s .args .lows .now) (s .args .highs .now) (s .args .total) =

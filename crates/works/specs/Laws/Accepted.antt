@@ -1,6 +1,6 @@
 -- The groups of an accepted job are sound over every table of its units. Assumes nothing.
 use Prim.Native.Nat.{ℕ, zero, suc, _<_}
-use mathlib.Core.Bool.{Bool, true, false, not, _||_}
+use mathlib.Core.Bool.{true, not}
 use mathlib.Core.List.{List, [], _∷_, _++_, List·Memᴰ, List·Memᴰ·not-nil, List·Memᴰ·cases-cons}
 use mathlib.Core.Logic.{⊎-elim}
 use mathlib.Core.Path.{_≡_, refl, sym, _∙_}
@@ -10,7 +10,8 @@ use borrow.Author.Tests.{eq-eqb, not-true}
 use lib.Dec.{eqb}
 use lib.ListN.{length, getD}
 use Rattle.job.specs.Distinct.{below-at}
-use Rattle.job.specs.Flat.{flatten}
+use Rattle.groups.specs.Flat.{flatten, groupsIn}
+use Rattle.groups.specs.Laws.Reading.{flatten-groups, flatten-holds}
 use Rattle.job.specs.Job.{Job, holds, distinct, accepted, readJob}
 use Rattle.job.specs.Reading.{Scanned, accepted-by, refused-by}
 use Rattle.job.specs.Sound as job
@@ -18,26 +19,20 @@ use Rattle.job.specs.Sound.{accepted-sound}
 use Rattle.job.specs.declared.Reading.{Reading}
 use Rattle.job.specs.declared.Reading.the-variants.{Read, Refused}
 use Rattle.model.specs.Groups.{Group}
-use Rattle.model.specs.Laws.Tests.{both-left, both-right, clash}
+use Rattle.model.specs.Laws.Tests.{both-left, both-right, clash, either-right}
 use Rattle.model.specs.declared.Refusal.{Refusal}
 use Rattle.works.specs.Calls.{settlement, settleJob, settleText}
 use Rattle.works.specs.Consistency.{SoundGroup, Sound}
-use Rattle.works.specs.Flat.{groupsIn}
 use Rattle.works.specs.Ready.{Prepared}
 use Rattle.works.specs.Tables.{Table, Valid, units}
 use Rattle.works.specs.declared.Settling.the-variants as works
-use Rattle.works.specs.Laws.Flat.{flatten-groups, flatten-holds}
 
 -- a number at a place of a list is found there
 found-at : (x : ℕ) (xs : List ℕ) (k : ℕ) → k < length xs → x ≡ getD xs k 0 → holds x xs ≡ true
 unfolding holds
 found-at x [] k h e = absurd (omega arith)
 found-at x (y ∷ ys) zero h e = rw (eq-eqb x y e)
-found-at x (y ∷ ys) (suc k) h e = later (eqb x y) (found-at x ys k (le-of-suc-le-suc h) e)
-  where
-    later : (here : Bool) {rest : Bool} → rest ≡ true → here || rest ≡ true
-    later true found = refl
-    later false found = found
+found-at x (y ∷ ys) (suc k) h e = either-right (eqb x y) (found-at x ys k (le-of-suc-le-suc h) e)
 
 -- no two places of distinct numbers have the same
 distinct-at : (xs : List ℕ) → distinct xs ≡ true → (j k : ℕ) → j < length xs → k < length xs → getD xs j 0 ≡ getD xs k 0 → j ≡ k

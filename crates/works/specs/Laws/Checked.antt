@@ -17,7 +17,7 @@ use Rattle.model.specs.Shares.{Ranges}
 use Rattle.model.specs.declared.Refusal.{Refusal}
 use Rattle.works.specs.Answers.{answerOf, tableAfter}
 use Rattle.works.specs.Calls.{settlement, hasRoom, checkTable, settleJob}
-use Rattle.works.specs.Flat.{groupsIn}
+use Rattle.groups.specs.Flat.{groupsIn}
 use Rattle.works.specs.Ready.{Opening, Prepared}
 use Rattle.works.specs.Settling.{settle}
 use Rattle.works.specs.Tables.{tableOf}

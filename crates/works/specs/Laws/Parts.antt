@@ -4,17 +4,13 @@ use mathlib.Core.List.{List, _++_}
 use mathlib.Core.Path.{_≡_}
 use native.Mathlib.Omega.{arith}
 use lib.ListN.{length, take, drop, length-drop}
-use lib.Seq.{take-all, take-append-seam, drop-append-seam, drop-drop}
+use lib.Seq.{take-append-seam, drop-append-seam, drop-drop}
 
 -- n numbers from a number on
 pub part : (at n : ℕ) (list : List ℕ) → take (at + n - at) (drop at list) ≡ take n (drop at list)
 part at n list =
     let count : at + n - at ≡ n = omega arith in
     rw count
-
--- all numbers from a number on
-pub from-part : (at : ℕ) (list : List ℕ) → at ≤ length list → take (length list - at) (drop at list) ≡ drop at list
-from-part at list within = take-all (length list - at) (drop at list) (omega (arith, length-drop at list))
 
 module _ (first second : List ℕ) where
   -- the first is written at the start of a list, the second after it

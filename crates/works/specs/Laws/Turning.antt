@@ -1,31 +1,23 @@
 -- A group's turn by its parts: the members' ranges gathered, narrowed and written back. Assumes nothing.
-use Prim.Native.Nat.{ℕ, _+_, _-_, _≤_}
+use Prim.Native.Nat.{ℕ, _≤_}
 use mathlib.Core.List.{List}
 use mathlib.Core.Path.{_≡_, ap, _∙_}
 use native.Mathlib.Omega.{arith}
-use lib.ListN.{length, getD, take, drop, length-drop}
+use lib.ListN.{length, take}
 use lib.Seq.{length-take-le}
 use Rattle.group.specs.Narrowing.{afterTurn}
 use Rattle.group.specs.Sound as one
 use Rattle.model.specs.Groups.{Group}
 use Rattle.model.specs.Laws.Lists.{ranges-length}
 use Rattle.model.specs.Plans.{turnOf, narrowedLows, narrowedHighs}
-use Rattle.model.specs.declared.Limit.{Limit}
 use Rattle.model.specs.declared.Turn.{Turn}
 use Rattle.model.specs.declared.Turn.the-variants.{Narrowed, NoPlan}
-use Rattle.works.specs.Flat.{limitOf, groupAt}
-use Rattle.works.specs.Ready.{groupOf, Turning, Room, Workspace}
+use Rattle.works.specs.Ready.{Turning, Room, Workspace}
 use Rattle.works.specs.Settling.{revisedBy, narrowed, revise}
 use Rattle.works.specs.Tables.{Table, Named, tableOf, units, scatter, lowsOf, highsOf, size}
 use Rattle.works.specs.Laws.Few.{size-few}
 use Rattle.works.specs.Laws.Members.{gather-length}
 use Rattle.works.specs.Laws.Turns.{gathered}
-
--- a group read from the start of a flat list
-pub group-read : (flat : List ℕ) {deviation spread : Limit} {members : List ℕ}
-    → deviation ≡ limitOf (getD flat 1 0) → spread ≡ limitOf (getD flat 2 0) → members ≡ groupAt flat .members
-    → groupOf (getD flat 0 0) (record { deviation = deviation; spread = spread }) members ≡ groupAt flat
-group-read flat is-deviation is-spread is-members = rw (is-deviation, is-spread, is-members)
 
 module _ {table : Table} {group : Group} (turning : Turning table group) where
   -- the members are units of the table
@@ -43,25 +35,18 @@ module _ {table : Table} {group : Group} (turning : Turning table group) where
       (one.sound (gathered table group (turning .valid) (turning .sound))
       (omega (arith, size-few (turning .sound), turning .few, gather-length (table .lows) (group .members))))
 
--- a group that a flat list holds whole has as many members as it says, and at most 256
-module _ (flat : List ℕ) (whole : 4 + getD flat 3 0 ≤ length flat) where
-  -- as many as it says
-  pub size-read : size (groupAt flat) ≡ getD flat 3 0
-  size-read = length-take-le (getD flat 3 0) (drop 4 flat) (omega (arith, length-drop 4 flat))
+  -- they are at most 256
+  pub count-few : size group ≤ one.greatestCount
+  count-few = omega (arith, size-few (turning .sound), turning .few)
 
-  -- at most 256
-  pub count-few : {table : Table} → Turning table (groupAt flat) → getD flat 3 0 ≤ one.greatestCount
-  count-few turning = omega (arith, size-read, size-few (turning .sound), turning .few)
-
-  -- working lists have room for it
-  pub room : {table : Table} → Turning table (groupAt flat) → {lows highs members : List ℕ} → Workspace lows highs
-      → members ≡ groupAt flat .members → Room (length members) (take (getD flat 3 0) lows) (take (getD flat 3 0) highs)
-  room turning {lows} {highs} {members} space is-members =
-      let few : getD flat 3 0 ≤ one.greatestCount = count-few turning in
-      let size : length members ≡ getD flat 3 0 = ap length is-members ∙ size-read in
+  -- working lists have room for them
+  pub room : {lows highs members : List ℕ} {count : ℕ} → Workspace lows highs → members ≡ group .members → size group ≡ count
+      → Room (length members) (take count lows) (take count highs)
+  room {lows} {highs} {members} {count} space is-members counted =
+      let sized : length members ≡ count = ap length is-members ∙ counted in
       record {
-        forLows = omega (arith, length-take-le (getD flat 3 0) lows (omega arith));
-        forHighs = omega (arith, length-take-le (getD flat 3 0) highs (omega arith));
+        forLows = omega (arith, count-few, length-take-le count lows (omega (arith, count-few)));
+        forHighs = omega (arith, count-few, length-take-le count highs (omega (arith, count-few)));
       }
 
 -- a group's turn on lists that hold its members' ranges

@@ -8,12 +8,11 @@ use Prim.Native.Nat.{ℕ, _+_, _-_, _*_, _≤_}
 use lib.ListN.{length}
 use Rattle.model.specs.Laws.Levelled.{topped-within}
 use Rattle.model.specs.Laws.Spread.{cauchy-schwarz}
-use Rattle.model.specs.Shares.{Within, greatestShare, sumOf}
+use Rattle.model.specs.Shares.{Within, greatestShare, sumOf, greatestTotal}
 use Rattle.model.specs.Figures.{apart, deviation, spread}
 use Rattle.model.specs.Levels.{topped}
 use Rattle.model.specs.Laws.Walk.{Passed, passed-step, passed-all}
 use Rattle.model.specs.Laws.Lists.{ranges-at, within-length}
-use Rattle.group.specs.Sound.{greatestTotal}
 use Rattle.group.specs.Bounds.{share-at-small, sum-small, squares-small, deviation-small}
 use Rattle.group.proofs.plans.figures_at.Statement.{statement}
 use Rattle.group.proofs.plans.figures_at.Tie as tie

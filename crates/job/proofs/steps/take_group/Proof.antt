@@ -1,21 +1,22 @@
 -- The line is the definition's; the tests are its verdict, and the stores the job's new group. Assumes nothing.
-use Prim.Native.Nat.{_+_, _-_, _*_, _≤_}
+use Prim.Native.Nat.{_+_, _-_, _≤_}
 use mathlib.Core.List.{map}
 use mathlib.Core.Path.{_≡_, sym, _∙_, ap}
 use lib.ListN.{length, drop, take, length-map}
 use lib.Seq.{sets}
 use borrow.Author.Tests.{not-true, not-false}
+use Rattle.model.specs.Figures.{greatestDeviation, greatestSpread}
 use Rattle.text.specs.Parsed.{mapped, mapped-failed}
 use Rattle.text.specs.Spots.{told}
 use Rattle.job.specs.Form.{group, groupAs}
 use Rattle.text.specs.Numbers.{held}
-use Rattle.job.specs.Job.{add, stepOn, headVerdict, distinct, greatestDeviation, greatestSpread, memberOf, mostFlat, mostMemberships}
+use Rattle.groups.specs.Flat.{mostFlat, flatLength}
+use Rattle.job.specs.Job.{add, stepOn, headVerdict, distinct, memberOf, mostMemberships}
 use Rattle.job.specs.Seen.{groupSeen}
 use Rattle.job.specs.Tally.{groupTally, GroupFacts, group-facts}
-use Rattle.job.specs.Verdicts.{head-good, limit-wider}
+use Rattle.job.specs.Verdicts.{head-good, limit-coded}
 use Rattle.job.specs.Distinct.{distinct-members, members-below}
 use Rattle.job.specs.Taking.{numbersOf, not-in-form, head-refused, number-refused, twice-refused, group-next, group-holds, headNumbers, heads-alike, part-of-sets}
-use Rattle.text.specs.Numbers.{most}
 use native.Mathlib.Omega.{arith}
 use borrow.Author.Needs.{needs}
 use Rattle.job.proofs.steps.take_group.Statement.{statement}
@@ -25,22 +26,22 @@ use Rattle.job.proofs.steps.take_group.Lts as lts
 use Rattle.job.proofs.lines.group_line.Reads as group-line-reads
 use Rattle.job.proofs.steps.are_distinct.Reads as are-distinct-reads
 use Rattle.job.proofs.steps.head_verdict.Reads as head-verdict-reads
-use Rattle.job.proofs.steps.put_head.Reads as put-head-reads
+use Rattle.groups.proofs.put_group.Reads as put-group-reads
 use Rattle.job.proofs.steps.refuse.Reads as refuse-reads
 
 -- what is known of the line once it was read
-seen : (h : lts.After-head (group-line-reads.Asked, group-line-reads.Learnt, refuse-reads.Asked, refuse-reads.Learnt, head-verdict-reads.Asked, head-verdict-reads.Learnt, are-distinct-reads.Asked, are-distinct-reads.Learnt, put-head-reads.Asked, put-head-reads.Learnt) reads.Pre reads.Post) →
+seen : (h : lts.After-head (group-line-reads.Asked, group-line-reads.Learnt, refuse-reads.Asked, refuse-reads.Learnt, head-verdict-reads.Asked, head-verdict-reads.Learnt, are-distinct-reads.Asked, are-distinct-reads.Learnt, put-group-reads.Asked, put-group-reads.Learnt) reads.Pre reads.Post) →
     let l = h .before .before .before .before in
     let a = l .before .before .before .before .args in
     let m = h .head .given .0 .1 .0 in
-    GroupFacts (a .progress .units) (a .progress .groups * 4 + a .progress .memberships + 4) (a .flat .now) (l .group-line .last .1 .1 .0) (drop (a .spot .at) (a .text .now)) (drop (m .next .at) (a .text .now)) (h .head .given .0 .0) (m .count) (m .within)
+    GroupFacts (a .progress .units) (flatLength (a .progress .groups) (a .progress .memberships) + 4) (a .flat .now) (l .group-line .last .1 .1 .0) (drop (a .spot .at) (a .text .now)) (drop (m .next .at) (a .text .now)) (h .head .given .0 .0) (m .count) (m .within)
 seen h =
     let l = h .before .before .before .before in
     let a = l .before .before .before .before .args in
     group-facts _ _ (a .flat .now) _ _ _ _ _ _ (told (groupSeen (a .text .now) (l .group-line .last .1 .1 .0)) (l .group-line .ensures) (h .head .given .1))
 
 -- its head has no refusal
-passed : (e : lts.Else1 (group-line-reads.Asked, group-line-reads.Learnt, refuse-reads.Asked, refuse-reads.Learnt, head-verdict-reads.Asked, head-verdict-reads.Learnt, are-distinct-reads.Asked, are-distinct-reads.Learnt, put-head-reads.Asked, put-head-reads.Learnt) reads.Pre reads.Post) →
+passed : (e : lts.Else1 (group-line-reads.Asked, group-line-reads.Learnt, refuse-reads.Asked, refuse-reads.Learnt, head-verdict-reads.Asked, head-verdict-reads.Learnt, are-distinct-reads.Asked, are-distinct-reads.Learnt, put-group-reads.Asked, put-group-reads.Learnt) reads.Pre reads.Post) →
     let h = e .before .before .before in
     let a = h .before .before .before .before .before .before .before .before .args in
     let g = seen h .line in
@@ -50,28 +51,28 @@ passed e =
     rw (f .total, f .limits, f .counted) (sym (e .before .head-verdict .ensures) ∙ e .if1 .left)
 
 -- its numbers fit the flat list
-fitting : (e : lts.Else1 (group-line-reads.Asked, group-line-reads.Learnt, refuse-reads.Asked, refuse-reads.Learnt, head-verdict-reads.Asked, head-verdict-reads.Learnt, are-distinct-reads.Asked, are-distinct-reads.Learnt, put-head-reads.Asked, put-head-reads.Learnt) reads.Pre reads.Post) →
+fitting : (e : lts.Else1 (group-line-reads.Asked, group-line-reads.Learnt, refuse-reads.Asked, refuse-reads.Learnt, head-verdict-reads.Asked, head-verdict-reads.Learnt, are-distinct-reads.Asked, are-distinct-reads.Learnt, put-group-reads.Asked, put-group-reads.Learnt) reads.Pre reads.Post) →
     let h = e .before .before .before in
     let a = h .before .before .before .before .before .before .before .before .args in
-    (a .progress .groups * 4 + a .progress .memberships + 4 + h .head .given .0 .1 .0 .count ≤ mostFlat) × (a .progress .memberships + h .head .given .0 .1 .0 .count ≤ mostMemberships)
+    (flatLength (a .progress .groups) (a .progress .memberships) + 4 + h .head .given .0 .1 .0 .count ≤ mostFlat) × (a .progress .memberships + h .head .given .0 .1 .0 .count ≤ mostMemberships)
 fitting e =
     let f = seen (e .before .before .before) in
     let k = head-good _ _ _ _ _ (passed e) in
     (omega (arith, k .room, k .fits, f .counted), omega (arith, k .fits, f .counted))
 
 -- the part of the flat list with its members
-members-part : (e : lts.Else1 (group-line-reads.Asked, group-line-reads.Learnt, refuse-reads.Asked, refuse-reads.Learnt, head-verdict-reads.Asked, head-verdict-reads.Learnt, are-distinct-reads.Asked, are-distinct-reads.Learnt, put-head-reads.Asked, put-head-reads.Learnt) reads.Pre reads.Post) →
+members-part : (e : lts.Else1 (group-line-reads.Asked, group-line-reads.Learnt, refuse-reads.Asked, refuse-reads.Learnt, head-verdict-reads.Asked, head-verdict-reads.Learnt, are-distinct-reads.Asked, are-distinct-reads.Learnt, put-group-reads.Asked, put-group-reads.Learnt) reads.Pre reads.Post) →
     let h = e .before .before .before in
     let l = h .before .before .before .before in
     let a = l .before .before .before .before .args in
-    let from = a .progress .groups * 4 + a .progress .memberships + 4 in
+    let from = flatLength (a .progress .groups) (a .progress .memberships) + 4 in
     take (from + h .head .given .0 .1 .0 .count - from) (drop from (l .group-line .last .1 .1 .0)) ≡ map memberOf (numbersOf (seen h .line))
 members-part e =
     let h = e .before .before .before in
     let f = seen h in
     let s = h .before .before .before .before .before .before .before .before in
     let a = s .args in
-    let from = a .progress .groups * 4 + a .progress .memberships + 4 in
+    let from = flatLength (a .progress .groups) (a .progress .memberships) + 4 in
     let ms = map memberOf (numbersOf (f .line)) in
     let n = length-map (numbersOf (f .line)) memberOf in
     let c : from + h .head .given .0 .1 .0 .count - from ≡ length ms = omega (arith, f .counted) in
@@ -109,7 +110,7 @@ returns c = λ job lows₀ highs₀ flat₀ lows highs holds.
     let l = c .before .before .before .before .before in
     let a = l .before .before .before .before .args in
     let none = told (groupSeen (a .text .now) (l .group-line .last .1 .1 .0)) (l .group-line .ensures) (c .before .enum-told .given .1) in
-    rw (c .refuse .ensures, mapped-failed (groupTally (a .progress .units) (a .progress .groups * 4 + a .progress .memberships + 4) (a .flat .now)) (groupAs held (drop (a .spot .at) (a .text .now))) none) (not-in-form job (a .progress) _ holds)
+    rw (c .refuse .ensures, mapped-failed (groupTally (a .progress .units) (flatLength (a .progress .groups) (a .progress .memberships) + 4) (a .flat .now)) (groupAs held (drop (a .spot .at) (a .text .now))) none) (not-in-form job (a .progress) _ holds)
 
 head-verdict-requires : tie.Need-head-verdict-requires
 head-verdict-requires c κs = search needs
@@ -188,22 +189,22 @@ returns-4 c = λ job lows₀ highs₀ flat₀ lows highs holds.
     let twice = sym (distinct-members _ _ all) ∙ sym (ap distinct (members-part e)) ∙ sym (d .are-distinct .ensures) ∙ not-true _ (c .before .if3 .taken) in
     rw (c .refuse4 .ensures, f .read) (twice-refused job (a .progress) _ holds (f .line) _ (passed e) all twice)
 
-put-head-requires : tie.Need-put-head-requires
-put-head-requires c κs =
-    let e = c .before .before .before .before .before .before in
+put-group-requires : tie.Need-put-group-requires
+put-group-requires c κs =
+    let e = c .before .before .before .before .before .before .before in
     let f = seen (e .before .before .before) in
     let l = e .before .before .before .before .before .before .before in
     let k = head-good _ _ _ _ _ (passed e) in (
       omega (arith, fitting e .0, l .group-line .kept .1 .1 .0, l .before .before .before .before .pre .2),
-      rw (← f .limits) (limit-wider greatestDeviation most (f .line .limits .deviation) (omega arith) (k .deviation-fits)),
-      rw (← f .limits) (limit-wider greatestSpread most (f .line .limits .spread) (omega arith) (k .spread-fits)),
+      rw (← f .limits) (limit-coded greatestDeviation (f .line .limits .deviation) (omega arith) (k .deviation-fits)),
+      rw (← f .limits) (limit-coded greatestSpread (f .line .limits .spread) (omega arith) (k .spread-fits)),
     )
 
-add-t17 : tie.Need-add-t17
-add-t17 c = search needs
+add-t19 : tie.Need-add-t19
+add-t19 c = search needs
 
-add-t22 : tie.Need-add-t22
-add-t22 c = omega (arith, fitting (c .before .before .before .before .before .before .before .before .before) .1)
+add-t24 : tie.Need-add-t24
+add-t24 c = omega (arith, fitting (c .before .before .before .before .before .before .before .before .before .before) .1)
 
 same-length-5 : tie.Need-same-length-5
 same-length-5 c = search needs
@@ -212,7 +213,7 @@ returns-5 : tie.Need-returns-5
 unfolding mapped
 returns-5 c = λ job lows₀ highs₀ flat₀ lows highs holds.
     let k = c .before .before .before in
-    let t = k .before .before in
+    let t = k .before .before .before in
     let d = t .before in
     let o = d .before .before .before in
     let e = o .before in
@@ -221,8 +222,8 @@ returns-5 c = λ job lows₀ highs₀ flat₀ lows highs holds.
     let a = s .args in
     let all = f .all-within ∙ not-false _ (o .if2 .left) in
     let once = sym (distinct-members _ _ all) ∙ sym (ap distinct (members-part e)) ∙ sym (d .are-distinct .ensures) ∙ not-false _ (t .if3 .left) in
-    let at = a .progress .groups * 4 + a .progress .memberships in
-    let stored = k .put-head .ensures ∙ heads-alike (e .before .before .before .before .before .before .before .group-line .last .1 .1 .0) at (sym (f .total)) (sym (f .limits)) (sym (f .counted)) ∙ ap (λ x. sets x at (headNumbers job (a .progress) _ holds (f .line))) (f .stored) in (
+    let at = flatLength (a .progress .groups) (a .progress .memberships) in
+    let stored = k .put-group .ensures ∙ heads-alike (e .before .before .before .before .before .before .before .group-line .last .1 .1 .0) at (sym (f .total)) (sym (f .limits)) (sym (f .counted)) ∙ ap (λ x. sets x at (headNumbers job (a .progress) _ holds (f .line))) (f .stored) in (
       add job (group (f .line)),
       ap (λ x. stepOn job (mapped group x)) (f .read) ∙ group-next job (a .progress) _ holds (f .line) _ (passed e) all once,
       group-holds job (a .progress) _ holds (f .line) _ _ (passed e) (s .pre .2) (f .counted) stored,
@@ -257,8 +258,8 @@ take-group-spec =
     refuse-requires-4
     same-length-4
     returns-4
-    put-head-requires
-    add-t17
-    add-t22
+    put-group-requires
+    add-t19
+    add-t24
     same-length-5
     returns-5)

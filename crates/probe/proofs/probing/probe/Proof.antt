@@ -1,7 +1,7 @@
 -- The group with member i pinned to v has v's part in place of the member's own. Assumes nothing.
 use borrow.Author.Needs.{needs}
 use mathlib.Core.List.{List}
-use mathlib.Core.Path.{sym, _∙_}
+use mathlib.Core.Path.{_∙_}
 use Prim.Native.Nat.{ℕ}
 use lib.ListN.{getD, set}
 use Rattle.probe.specs.Pins.{Pin, pinned}
@@ -41,18 +41,22 @@ last-within-requires c κs =
     let s = c .before .before .before .before .before in
     (probeable (s .pre .0) (s .pre .1 .0) (pinned-there s), s .pre .1 .1 .1 .least)
 
-met-at-requires : tie.Need-met-at-requires
-met-at-requires c κs =
+pinned-figures-requires : tie.Need-pinned-figures-requires
+pinned-figures-requires c κs =
     let s = c .before .before .before .before .before .before in
     (s .pre .0, (s .pre .1 .0, (record { pinnedLows = set (lows s) (s .args .i) (s .args .v); pinnedHighs = set (highs s) (s .args .i) (s .args .v); pin = pinned-there s }, (c .last-within .ensures, s .pre .1 .1 .1 .greatest))))
 
+met-requires : tie.Need-met-requires
+met-requires c κs = search needs
+
 returns : tie.Need-returns
 returns c =
-    let s = c .before .before .before .before .before .before .before in
-    let reach = s .pre .1 .1 .1 in (
-      c .met-at .ensures .is (pinned-there s)
-          ∙ sym (decided (s .pre .0) (pinned-there s) (s .pre .1 .0) (s .args .limits) (reach .least) (reach .greatest)),
-      c .before .last-within .ensures,
+    let s = c .before .before .before .before .before .before .before .before in
+    let reach = s .pre .1 .1 .1 in
+    let pin = pinned-there s in (
+      c .met .ensures
+          ∙ decided (s .pre .0) pin (s .pre .1 .0) (s .args .limits) (reach .least) (reach .greatest) (c .before .pinned-figures .ensures .is pin),
+      c .before .before .last-within .ensures,
     )
 
 pub probe-spec : {M : Type 1} → statement M
@@ -65,5 +69,6 @@ probe-spec =
     shared-slice-read-high
     mul-last-within
     last-within-requires
-    met-at-requires
+    pinned-figures-requires
+    met-requires
     returns)

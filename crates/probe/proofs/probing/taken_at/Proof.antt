@@ -1,7 +1,7 @@
 -- The group with member i pinned to v has v's part in place of the member's own. Assumes nothing.
 use borrow.Author.Needs.{needs}
 use mathlib.Core.List.{List}
-use mathlib.Core.Path.{sym, _∙_}
+use mathlib.Core.Path.{_∙_}
 use Prim.Native.Nat.{ℕ}
 use lib.ListN.{getD, set}
 use Rattle.probe.specs.Pins.{Pin, pinned}
@@ -20,37 +20,42 @@ module _ (s : tie.Start) where
   pinned-there : Pin lows highs (getD lows (s .args .i) 0) (getD highs (s .args .i) 0) (s .args .v) (set lows (s .args .i) (s .args .v)) (set highs (s .args .i) (s .args .v))
   pinned-there = pinned (s .pre .0 .ranges) (s .args .i) (s .args .v) (s .pre .1 .1 .0 .0) (s .pre .1 .1 .0 .1)
 
-mul-met-at : tie.Need-mul-met-at
-mul-met-at c = search needs
+mul-pinned-figures : tie.Need-mul-pinned-figures
+mul-pinned-figures c = search needs
 
-shared-slice-read-met-at : tie.Need-shared-slice-read-met-at
-shared-slice-read-met-at c = search needs
+shared-slice-read-pinned-figures : tie.Need-shared-slice-read-pinned-figures
+shared-slice-read-pinned-figures c = search needs
 
-mul-met-at-2 : tie.Need-mul-met-at-2
-mul-met-at-2 c = search needs
+mul-pinned-figures-2 : tie.Need-mul-pinned-figures-2
+mul-pinned-figures-2 c = search needs
 
-shared-slice-read-met-at-2 : tie.Need-shared-slice-read-met-at-2
-shared-slice-read-met-at-2 c = search needs
+shared-slice-read-pinned-figures-2 : tie.Need-shared-slice-read-pinned-figures-2
+shared-slice-read-pinned-figures-2 c = search needs
 
-met-at-requires : tie.Need-met-at-requires
-met-at-requires c κs =
+pinned-figures-requires : tie.Need-pinned-figures-requires
+pinned-figures-requires c κs =
     let s = c .before .before .before .before .before in
     (s .pre .0, (s .pre .1 .0, (record { pinnedLows = set (lows s) (s .args .i) (s .args .v); pinnedHighs = set (highs s) (s .args .i) (s .args .v); pin = pinned-there s }, (s .pre .1 .1 .1 .1, s .pre .1 .1 .1 .0 .greatest))))
 
+met-requires : tie.Need-met-requires
+met-requires c κs = search needs
+
 returns : tie.Need-returns
 returns c =
-    let s = c .before .before .before .before .before .before in
+    let s = c .before .before .before .before .before .before .before in
     let reach = s .pre .1 .1 .1 .0 in
-    c .met-at .ensures .is (pinned-there s)
-    ∙ sym (decided (s .pre .0) (pinned-there s) (s .pre .1 .0) (s .args .limits) (reach .least) (reach .greatest))
+    let pin = pinned-there s in
+    c .met .ensures
+    ∙ decided (s .pre .0) pin (s .pre .1 .0) (s .args .limits) (reach .least) (reach .greatest) (c .before .pinned-figures .ensures .is pin)
 
 pub taken-at-spec : {M : Type 1} → statement M
 taken-at-spec =
     tie.close
     (tie.spec
-    mul-met-at
-    shared-slice-read-met-at
-    mul-met-at-2
-    shared-slice-read-met-at-2
-    met-at-requires
+    mul-pinned-figures
+    shared-slice-read-pinned-figures
+    mul-pinned-figures-2
+    shared-slice-read-pinned-figures-2
+    pinned-figures-requires
+    met-requires
     returns)

@@ -5,17 +5,14 @@ use native.Mathlib.Omega.{arith}
 use Rattle.probe.proofs.table.from_mean.Statement.{statement}
 use Rattle.probe.proofs.table.from_mean.Tie as tie
 
-mul-scaled : tie.Need-mul-scaled
-mul-scaled c = omega (arith, mul-le-mul (c .pre .0) (c .pre .1))
+mul-apart : tie.Need-mul-apart
+mul-apart c = omega (arith, mul-le-mul (c .pre .0) (c .pre .1))
+
+apart-requires : tie.Need-apart-requires
+apart-requires c κs = search needs
 
 returns : tie.Need-returns
-returns c = search needs
-
-sub-result : tie.Need-sub-result
-sub-result c = search needs
-
-returns-2 : tie.Need-returns-2
-returns-2 c = search needs
+returns c = c .apart .ensures
 
 pub from-mean-spec : {M : Type 1} → statement M
-from-mean-spec = tie.close (tie.spec mul-scaled returns sub-result returns-2)
+from-mean-spec = tie.close (tie.spec mul-apart apart-requires returns)

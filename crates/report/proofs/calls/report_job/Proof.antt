@@ -7,7 +7,7 @@ use native.Mathlib.Omega.{arith}
 use lib.ListN.{length}
 use lib.Seq.{length-take-le}
 use Rattle.works.specs.Calls.{Settlement, settlement, settleJob}
-use Rattle.works.specs.Flat.{groupsIn}
+use Rattle.groups.specs.Flat.{groupsIn}
 use Rattle.works.specs.declared.Settling.{Settling}
 use Rattle.works.specs.declared.Settling.the-variants.{Settled}
 use Rattle.report.specs.Settled.{Settles, settles, settles-reportable}

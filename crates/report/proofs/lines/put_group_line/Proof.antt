@@ -3,8 +3,7 @@ use borrow.Author.Needs.{needs}
 use Prim.Native.Nat.{ℕ}
 use mathlib.Core.List.{List, [], _∷_, flatten}
 use mathlib.Core.Path.{refl}
-use Rattle.model.specs.declared.Deviation.{Deviation}
-use Rattle.model.specs.declared.Spread.{Spread}
+use Rattle.model.specs.declared.Figures.{Figures}
 use Rattle.text.specs.Words.{bytes}
 use Rattle.print.specs.Items.{form}
 use Rattle.print.specs.Written.{Room, Rest, begin, room-next, next, done}
@@ -12,12 +11,13 @@ use Rattle.report.specs.Lines.{groupLine}
 use Rattle.report.proofs.lines.put_group_line.Statement.{statement}
 use Rattle.report.proofs.lines.put_group_line.Tie as tie
 
-parts : (number level : ℕ) (deviation : Deviation) (spread : Spread) (shares : List ℕ) {buffer : List ℕ} {at : ℕ}
-    → Room buffer at (groupLine number level deviation spread shares)
-    → Rest (groupLine number level deviation spread shares) buffer at
-    (form (bytes "(group") (number ∷ level ∷ deviation .0 ∷ spread .0 ∷ []) ∷ form (bytes " (plan") shares ∷ bytes "))\n" ∷ []) buffer at
+parts : (number level : ℕ) (figures : Figures) (shares : List ℕ) {buffer : List ℕ} {at : ℕ}
+    → Room buffer at (groupLine number level figures shares)
+    → Rest (groupLine number level figures shares) buffer at
+    (form (bytes "(group") (number ∷ level ∷ figures .deviation .0 ∷ figures .spread .0 ∷ []) ∷ form (bytes " (plan") shares ∷ bytes "))\n" ∷ [])
+    buffer at
 unfolding groupLine
-parts number level deviation spread shares room = begin _ refl room
+parts number level figures shares room = begin _ refl room
 
 slice-aggregate-put-form : tie.Need-slice-aggregate-put-form
 slice-aggregate-put-form c = search needs
@@ -26,7 +26,7 @@ slice-aggregate-put-form-2 : tie.Need-slice-aggregate-put-form-2
 slice-aggregate-put-form-2 c = search needs
 
 put-form-requires : tie.Need-put-form-requires
-put-form-requires c κs = room-next (parts _ _ _ _ _ (c .before .before .before .before .before .pre))
+put-form-requires c κs = room-next (parts _ _ _ _ (c .before .before .before .before .before .pre))
 
 slice-aggregate-put-form-3 : tie.Need-slice-aggregate-put-form-3
 slice-aggregate-put-form-3 c = search needs
@@ -34,7 +34,7 @@ slice-aggregate-put-form-3 c = search needs
 put-form-requires-2 : tie.Need-put-form-requires-2
 put-form-requires-2 c κs =
     let first = c .before .before .before .before in
-    room-next (next (parts _ _ _ _ _ (first .before .before .before .before .before .before .pre)) (first .put-form .ensures))
+    room-next (next (parts _ _ _ _ (first .before .before .before .before .before .before .pre)) (first .put-form .ensures))
 
 slice-aggregate-put-word : tie.Need-slice-aggregate-put-word
 slice-aggregate-put-word c = search needs
@@ -43,7 +43,7 @@ put-word-requires : tie.Need-put-word-requires
 put-word-requires c κs =
     let second = c .before .before .before .before in
     let first = second .before .before .before .before .before in
-    room-next (next (next (parts _ _ _ _ _ (first .before .before .before .before .before .before .pre)) (first .put-form .ensures)) (second .put-form2 .ensures))
+    room-next (next (next (parts _ _ _ _ (first .before .before .before .before .before .before .pre)) (first .put-form .ensures)) (second .put-form2 .ensures))
 
 same-length : tie.Need-same-length
 same-length c = search needs
@@ -53,7 +53,7 @@ unfolding flatten
 returns c =
     let second = c .before .before .before .before .before .before .before in
     let first = second .before .before .before .before .before in
-    let opened = next (parts _ _ _ _ _ (first .before .before .before .before .before .before .pre)) (first .put-form .ensures) in
+    let opened = next (parts _ _ _ _ (first .before .before .before .before .before .before .pre)) (first .put-form .ensures) in
     done refl (next (next opened (second .put-form2 .ensures)) (c .before .before .put-word .ensures))
 
 pub put-group-line-spec : {M : Type 1} → statement M

@@ -6,7 +6,7 @@ use lib.ListN.{length}
 use mathlib.Core.Path.{sym}
 use Rattle.works.specs.Tables.{gather}
 use Rattle.works.specs.Laws.Members.{gather-length, gather-at}
-use Rattle.works.specs.Laws.Writing.{Filled, filled-none, filled-more, filled-all}
+use Rattle.model.specs.Laws.Writing.{Filled, filled-none, filled-more, filled-all}
 use Rattle.works.proofs.members.gather.Statement.{statement}
 use Rattle.works.proofs.members.gather.Tie as tie
 

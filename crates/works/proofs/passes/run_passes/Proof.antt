@@ -3,17 +3,18 @@
 use borrow.Author.Needs.{needs}
 use mathlib.Core.List.{List}
 use mathlib.Core.Logic.{_≢_}
-use mathlib.Core.Path.{_≡_, refl, sym, subst, _∙_}
+use mathlib.Core.Path.{_≡_, refl, sym, _∙_}
 use native.Mathlib.Omega.{arith}
-use Prim.Native.Nat.{ℕ, _+_, _-_, _≤_, _<_}
-use lib.ListN.{length, getD, take, drop}
+use Prim.Native.Nat.{ℕ, _-_}
+use lib.ListN.{length}
 use Rattle.works.specs.Answers.{settled-answer, refused-answer}
-use Rattle.works.specs.Flat.{groupAt, groupsIn}
-use Rattle.works.specs.Ready.{Turning, Workspace}
+use Rattle.groups.specs.Flat.{groupsIn, storedAt}
+use Rattle.groups.specs.Laws.Walk.{walk-whole}
+use Rattle.groups.specs.declared.Stored.{Stored}
+use Rattle.works.specs.Ready.{Workspace}
 use Rattle.works.specs.Settling as settling
 use Rattle.works.specs.Tables.{Table, tableOf, width}
-use Rattle.works.specs.Laws.Parts.{from-part}
-use Rattle.works.specs.Laws.Running.{Passing, Next, Unsettled, opening-sound, width-small, passing-sound, passing-start, passing-next, passing-end, next-within, next-turning, next-stops, next-passes, unsettled-start, pass-refused, pass-settled, pass-falls, pass-goes-on}
+use Rattle.works.specs.Laws.Running.{Passing, Unsettled, opening-sound, width-small, passing-sound, passing-start, passing-end, next, next-turning, next-stops, next-passes, unsettled-start, pass-refused, pass-settled, pass-falls, pass-goes-on}
 use Rattle.works.proofs.passes.run_passes.Statement.{statement}
 use Rattle.works.proofs.passes.run_passes.Tie as tie
 
@@ -80,16 +81,6 @@ module _ (c : tie.In-loop Inv-loop μ-loop Inv-passes μ-passes) where
   abbrev turnTable : Table
   turnTable = tableOf (c .before .loop .lows) (c .before .loop .highs)
 
-  next : Next (flat pass) (groups pass) (table pass) turnTable at (c .before .loop .place)
-  next = passing-next _ _ _ _ _ _ (c .before .loop .inv .0) (c .loop-test .taken)
-
-  within : at + (4 + getD (flat pass) (at + 3) 0) ≤ length (flat pass)
-  within = next-within _ _ _ _ _ _ next
-
-  -- the list that the turn gets starts with its group
-  part : take (length (flat pass) - at) (drop at (flat pass)) ≡ drop at (flat pass)
-  part = from-part at (flat pass) (omega (arith, within))
-
   -- the working lists have room
   space : Workspace (c .before .loop .member-lows) (c .before .loop .member-highs)
   space =
@@ -122,33 +113,35 @@ width-of-requires c κs =
 loop-holds : tie.Need-loop-holds Inv-loop μ-loop Inv-passes μ-passes
 loop-holds c = (passing-start _ _ (unsettled (c .before .before .before) .ready), sizes-kept)
 
-mul-take-turn : tie.Need-mul-take-turn Inv-loop μ-loop Inv-passes μ-passes
-mul-take-turn c =
-    let below : at c < length (flat (pass c)) = omega (arith, within c) in
-    search needs
+group-at-requires : tie.Need-group-at-requires Inv-loop μ-loop Inv-passes μ-passes
+group-at-requires c κs = walk-whole _ _ (c .before .loop .inv .0 .walk) (c .loop-test .taken)
 
-sub-take-turn : tie.Need-sub-take-turn Inv-loop μ-loop Inv-passes μ-passes
-sub-take-turn c = omega (arith, within c)
+-- the group whose turn it is
+module _ (c : tie.After-group-at Inv-loop μ-loop Inv-passes μ-passes) where
+  abbrev turn : tie.In-loop Inv-loop μ-loop Inv-passes μ-passes
+  turn = c .before
 
-part-take-turn-start : tie.Need-part-take-turn-start Inv-loop μ-loop Inv-passes μ-passes
-part-take-turn-start c = omega (arith, within c)
+  abbrev stored : Stored
+  stored = c .group-at .result
 
-part-take-turn-end : tie.Need-part-take-turn-end Inv-loop μ-loop Inv-passes μ-passes
-part-take-turn-end c = search needs
+  read : stored ≡ storedAt (flat (pass turn)) (at turn)
+  read = c .group-at .ensures
+
+  passing : Passing (flat (pass turn)) (groups (pass turn)) (table (pass turn)) (turnTable turn) (at turn) (turn .before .loop .place)
+  passing = turn .before .loop .inv .0
 
 take-turn-requires : tie.Need-take-turn-requires Inv-loop μ-loop Inv-passes μ-passes
 take-turn-requires c κs =
-    let turn = c .before .before .before .before .before in (
-      subst (λ (l : List ℕ). Turning (turnTable turn) (groupAt l)) (sym (part turn))
-          (next-turning _ _ _ _ _ _ (next turn) (unsettled (pass turn) .ready .few)),
-      (
-        subst (λ (l : List ℕ). 4 + getD l 3 0 ≤ length l) (sym (part turn)) (next turn .whole),
-        space turn,
-      ),
+    let g = c .before .before .before .before in
+    let some = turn g .loop-test .taken in (
+      next-turning _ _ (passing g) some (read g) (unsettled (pass (turn g)) .ready .few),
+      (next _ _ (passing g) some (read g) .within, space (turn g)),
     )
 
 add-place : tie.Need-add-place Inv-loop μ-loop Inv-passes μ-passes
-add-place c = search needs
+add-place c =
+    let turn = c .before .before .before .before .before .before .before .before .before .before .before .before .before .before in
+    omega (arith, turn .loop-test .taken, start (pass turn) .fits .groups)
 
 enum-told : tie.Need-enum-told Inv-loop μ-loop Inv-passes μ-passes
 enum-told c = search needs
@@ -159,33 +152,15 @@ enum-told-2 c = search needs
 number-of-requires : tie.Need-number-of-requires Inv-loop μ-loop Inv-passes μ-passes
 number-of-requires c κs = search needs
 
-add-at : tie.Need-add-at Inv-loop μ-loop Inv-passes μ-passes
-add-at c = let turn = c .before .before .before .before .before .before .before .before .before .before .before .before .before .before .before .before in omega (arith, within turn, start (pass turn) .good)
-
-mul-at : tie.Need-mul-at Inv-loop μ-loop Inv-passes μ-passes
-mul-at c =
-    let turn = c .before .before .before .before .before .before .before .before .before .before .before .before .before .before .before .before in
-    let below : at turn + 3 < length (flat (pass turn)) = omega (arith, within turn) in
-    search needs
-
-shared-slice-read-at : tie.Need-shared-slice-read-at Inv-loop μ-loop Inv-passes μ-passes
-shared-slice-read-at c = omega (arith, within (c .before .before .before .before .before .before .before .before .before .before .before .before .before .before .before .before .before))
-
-add-at-2 : tie.Need-add-at-2 Inv-loop μ-loop Inv-passes μ-passes
-add-at-2 c = omega (arith, within (c .before .before .before .before .before .before .before .before .before .before .before .before .before .before .before .before .before))
-
-add-at-3 : tie.Need-add-at-3 Inv-loop μ-loop Inv-passes μ-passes
-add-at-3 c = omega (arith, within (c .before .before .before .before .before .before .before .before .before .before .before .before .before .before .before .before .before))
-
 loop-less : tie.Need-loop-less Inv-loop μ-loop Inv-passes μ-passes
 loop-less c = search needs
 
 loop-again : tie.Need-loop-again Inv-loop μ-loop Inv-passes μ-passes
 loop-again c =
-    let call = c .before .before .before .before .before .before .before .before .before .before .before in
-    let turn = call .before .before .before .before .before .before in (
-      next-passes _ _ _ _ _ _ (next turn) (call .take-turn .result) _ _ (part turn) (call .take-turn .ensures) (c .before .enum-told .given .1),
-      sizes-again (turn .before .loop .inv .1) (record { first = omega (arith, call .take-turn .kept); second = omega (arith, call .take-turn .kept); third = omega (arith, call .take-turn .kept); fourth = omega (arith, call .take-turn .kept) }),
+    let call = c .before .before .before .before .before .before .before .before .before .before in
+    let g = call .before .before .before .before .before in (
+      next-passes _ _ (passing g) (turn g .loop-test .taken) (read g) (call .take-turn .result) _ (call .take-turn .ensures) (c .enum-told .given .1),
+      sizes-again (turn g .before .loop .inv .1) (record { first = omega (arith, call .take-turn .kept); second = omega (arith, call .take-turn .kept); third = omega (arith, call .take-turn .kept); fourth = omega (arith, call .take-turn .kept) }),
     )
 
 width-of-requires-2 : tie.Need-width-of-requires-2 Inv-loop μ-loop Inv-passes μ-passes
@@ -241,10 +216,11 @@ same-length-8 c = search needs
 returns-2 : tie.Need-returns-2 Inv-loop μ-loop Inv-passes μ-passes
 returns-2 c =
     let call = c .before .before .before .before .before .before .before .before .before .before .before in
-    let turn = call .before .before .before .before .before .before in
+    let g = call .before .before .before .before .before in
     refused-answer
-    (pass-refused _ _ (unsettled (pass turn))
-    (next-stops _ _ _ _ _ _ (next turn) (call .take-turn .result) _ _ (part turn) (call .take-turn .ensures) (c .before .enum-told2 .given .1) (c .number-of .ensures)))
+    (pass-refused _ _ (unsettled (pass (turn g)))
+    (next-stops _ _ (passing g) (turn g .loop-test .taken) (read g) (call .take-turn .result) _ (call .take-turn .ensures)
+    (c .before .enum-told2 .given .1) (c .number-of .ensures)))
     _
 
 pub run-passes-spec : {M : Type 1} → statement M
@@ -259,20 +235,12 @@ run-passes-spec =
     add-passes
     width-of-requires
     loop-holds
-    mul-take-turn
-    sub-take-turn
-    part-take-turn-start
-    part-take-turn-end
+    group-at-requires
     take-turn-requires
     add-place
     enum-told
     enum-told-2
     number-of-requires
-    add-at
-    mul-at
-    shared-slice-read-at
-    add-at-2
-    add-at-3
     loop-less
     loop-again
     width-of-requires-2

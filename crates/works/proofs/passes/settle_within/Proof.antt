@@ -9,7 +9,7 @@ use types.Run.{OneOf}
 use denote.Enum.Declared.{tagOf}
 use Rattle.works.proofs.Settling.{the-type}
 use Rattle.works.specs.Answers.{answerOf, tableAfter, settled-any}
-use Rattle.works.specs.Flat.{groupsIn}
+use Rattle.groups.specs.Flat.{groupsIn}
 use Rattle.works.specs.Settling.{Outcome, settle}
 use Rattle.works.specs.Tables.{Table, tableOf}
 use Rattle.works.specs.Laws.Inside.{same-ranges}

@@ -43,7 +43,8 @@ use Rattle.text.proofs.Spot as S
 use Rattle.text.proofs.Spot.Laws as S′
 use Rattle.model.proofs.Refusal as F
 use Rattle.model.proofs.Refusal.Laws as F′
-use Rattle.job.specs.Job.{mostBytes, mostUnits, mostFlat}
+use Rattle.groups.specs.Flat.{mostFlat}
+use Rattle.job.specs.Job.{mostBytes, mostUnits}
 use Rattle.job.specs.Steps.{Bounded, LineTaken}
 use Rattle.job.specs.Reading.{Scanned, countsOf}
 use Rattle.job.specs.Scanning.{Moment, on-line, scanned-counts, scanned-stop}

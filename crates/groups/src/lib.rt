@@ -1,0 +1,79 @@
+// The groups of a job as one flat list of numbers: its layout is written and read here alone.
+use model::Limit;
+use model::Limits;
+ghost use Prim.Native.Nat.{_+_, _≤_};
+ghost use mathlib.Core.Path.{_≡_};
+ghost use lib.ListN.{length};
+ghost use lib.Seq.{sets};
+ghost use Rattle.groups.specs.Flat.{Coded, limitCode, limitOf, headOf, storedAt, Whole};
+
+// The numbers in front of a group's members: total, deviation limit, spread limit, number of members.
+pub const HEAD: usize = 4;
+
+// The numbers that the groups of every job take: 64 heads and 4,096 memberships.
+pub const MOST_FLAT: usize = 4352;
+
+// A group in the list: its total and limits, where its members begin, how many they are, and where the next group starts.
+pub struct Stored {
+    pub total: u64,
+    pub limits: Limits,
+    pub from: usize,
+    pub count: usize,
+    pub next: usize,
+}
+
+// The number that a limit is stored as: 0 for any, else one more than the limit.
+fn limit_code(limit: Limit) -> u64
+    requires { ⌜ Coded limit ⌝ }
+    ensures { λ r. ⌜ r ≡ limitCode limit ⌝ }
+{
+    match limit {
+        Limit::Any => 0,
+        Limit::AtMost(most) => most + 1,
+    }
+}
+
+// The limit that a number stands for.
+fn limit_of(code: u64) -> Limit
+    ensures { λ r. ⌜ r ≡ limitOf code ⌝ }
+{
+    if code == 0 {
+        return Limit::Any;
+    }
+    Limit::AtMost(code - 1)
+}
+
+// Writes a group's head at an index, in front of its members.
+pub fn put_group(flat: &mut [u64], at: usize, total: u64, limits: Limits, count: usize)
+    requires { ⌜ (at + 4 ≤ length (now flat)) × Coded (limits .deviation) × Coded (limits .spread) ⌝ }
+    ensures { λ _. ⌜ now (flat .exit) ≡ sets (now (flat .entry)) at (headOf total limits count) ⌝ }
+{
+    let deviation = limits.deviation;
+    let spread = limits.spread;
+    let first = limit_code(deviation);
+    let second = limit_code(spread);
+    flat[at] = total;
+    flat[at + 1] = first;
+    flat[at + 2] = second;
+    flat[at + 3] = count as u64;
+}
+
+// The group at an index.
+pub fn group_at(flat: &[u64], at: usize) -> Stored
+    requires { ⌜ Whole (now flat) at ⌝ }
+    ensures { λ r. ⌜ r ≡ storedAt (now (flat .entry)) at ⌝ }
+{
+    let limits = Limits {
+        deviation: limit_of(flat[at + 1]),
+        spread: limit_of(flat[at + 2]),
+    };
+    let count = flat[at + 3] as usize;
+    let from = at + HEAD;
+    Stored {
+        total: flat[at],
+        limits,
+        from,
+        count,
+        next: from + count,
+    }
+}
