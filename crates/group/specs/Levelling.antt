@@ -1,15 +1,9 @@
 -- What levelling one group on lists answers, and the plan list after it. Assumes nothing.
 use Prim.Native.Nat.{ℕ}
-use mathlib.Core.Bool.{true}
-use mathlib.Core.Path.{_≡_}
 use mathlib.Core.List.{List, _++_}
 use lib.Dec.{leb}
 use lib.ListN.{length, drop}
 use Rattle.model.specs.Shares.{pick, greatestTotal}
-use Rattle.model.specs.declared.Figures.{Figures}
-use Rattle.model.specs.declared.Share.{Share}
-use Rattle.model.specs.declared.Checked.{Checked}
-use Rattle.model.specs.declared.Checked.the-variants.{Valid}
 use Rattle.model.specs.Figures.{figuresOf}
 use Rattle.model.specs.Levels.{level, levelled}
 use Rattle.model.specs.Plans.{hasShares}
@@ -38,13 +32,3 @@ levelling lows highs total room = afterCheck (checkLists lows highs room (leb to
 abbrev pub planAfter : Levelling → List ℕ → List ℕ → List ℕ
 planAfter (Levelled v figures) shares plan = shares ++ drop (length shares) plan
 planAfter (Refused refusal) shares plan = plan
-
--- the answer where shares exist
-pub levelled-answer : (lows highs : List ℕ) (total v : ℕ) (answer : Checked) (share : Share) (figures : Figures)
-    → hasShares lows highs total ≡ true → v ≡ level lows highs total → answer ≡ Valid (record { copies = v }) → answer ≡ Valid share
-    → figures ≡ figuresOf (length lows) total (levelled lows highs total)
-    → Levelled share figures ≡ levelledTo lows highs total
-unfolding levelledTo
-levelled-answer lows highs total v answer share figures exist is-level valid is-valid is-figures =
-    let is-share : share ≡ record { copies = v } = cc in
-    rw (exist, is-share, is-level, is-figures)

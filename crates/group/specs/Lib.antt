@@ -1,14 +1,10 @@
 pub mod Sound
-pub mod Bounds
 pub mod Checks
 pub mod First
 pub mod Findings
 pub mod Levelling
-pub mod Tabled
-pub mod Edges
-pub mod Reaching
-pub mod Flanks
-pub mod Ends
 pub mod Narrowing
 pub mod Answers
 pub mod Promises
+pub mod Inner
+pub mod Laws

@@ -13,9 +13,9 @@ ghost use Prim.Native.Nat.{_*_, _≤_, _<_, min};
 ghost use lib.ListN.{length, getD};
 ghost use Rattle.model.specs.Figures.{apart};
 ghost use Rattle.model.specs.Plans.{taken};
-ghost use Rattle.probe.specs.Probes.{InReach};
-ghost use Rattle.group.specs.Edges.{Edge, Reach, Approach};
-ghost use Rattle.group.specs.Flanks.{Flanked, OneRow, ToOneRow};
+ghost use Rattle.probe.specs.Inner.Probes.{InReach};
+ghost use Rattle.group.specs.Inner.Edges.{Edge, Reach, Approach};
+ghost use Rattle.group.specs.Inner.Flanks.{Flanked, OneRow, ToOneRow};
 
 // Two values of one row, of which some plan gives a member the inner one and none the outer one.
 struct Gap {

@@ -14,10 +14,10 @@ ghost use mathlib.Core.Path.{_≡_};
 ghost use Prim.Native.Nat.{_*_, _≤_};
 ghost use lib.ListN.{length, getD};
 ghost use Rattle.model.specs.Plans.{narrowedLows, narrowedHighs};
-ghost use Rattle.probe.specs.Probes.{LevelledOn};
+ghost use Rattle.probe.specs.Inner.Probes.{LevelledOn};
 ghost use Rattle.group.specs.Sound.{Sound, HasShares};
-ghost use Rattle.group.specs.Narrowing.{Turned};
-ghost use Rattle.group.specs.Tabled.{Tabled, HasPlan, Room, Space};
+ghost use Rattle.group.specs.Inner.Narrowing.{Turned};
+ghost use Rattle.group.specs.Inner.Tabled.{Tabled, HasPlan, Room, Space};
 
 // Writes the narrowed lows over starts and the narrowed highs over stops.
 fn narrow_members(

@@ -1,2 +1,3 @@
-pub mod Flat
+pub mod Memberships
+pub mod Inner
 pub mod Laws

@@ -5,7 +5,7 @@ ghost use Prim.Native.Nat.{_+_, _≤_};
 ghost use mathlib.Core.Path.{_≡_};
 ghost use lib.ListN.{length};
 ghost use lib.Seq.{sets};
-ghost use Rattle.groups.specs.Flat.{Coded, limitCode, limitOf, headOf, storedAt, Whole};
+ghost use Rattle.groups.specs.Inner.Flat.{Coded, limitCode, limitOf, headOf, storedAt, Whole};
 
 // The numbers in front of a group's members: total, deviation limit, spread limit, number of members.
 pub const HEAD: usize = 4;

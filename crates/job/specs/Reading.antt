@@ -1,21 +1,12 @@
 -- The answers of reading, and what it leaves in the lists. Assumes nothing.
-use Prim.Native.Nat.{ℕ, zero, suc, _+_, _≤_, _<_}
+use Prim.Native.Nat.{ℕ}
 use mathlib.Core.Bool.{_&&_}
-use mathlib.Core.List.{List, [], _∷_, _++_}
-use mathlib.Core.Path.{_≡_, refl, ap}
-use native.Mathlib.Omega.{arith}
-use borrow.Author.Tests.{le-leb, lt-leb}
-use lib.Dec.{leb, eqb}
-use lib.ListN.{length, take, drop, length-append}
-use lib.Seq.{take-at}
+use mathlib.Core.List.{List, _++_}
+use mathlib.Core.Path.{_≡_}
+use lib.Dec.{leb}
+use lib.ListN.{length, drop}
 use Rattle.model.specs.Shares.{pick}
-use Rattle.model.specs.declared.Refusal.{Refusal}
-use Rattle.text.specs.Parsed.{Parsed, parsed, failed}
-use Rattle.job.specs.Form.{Line, unit, group, printLine, line}
-use Rattle.job.specs.Spelling.{printed-line}
-use Rattle.job.specs.Job.{Job, next, stop, stepOn, verdict, judged, add, placeOf, Outcome, accepted, refused, refusal, onward, readLines, readJob}
-use Rattle.groups.specs.Flat.{flatten}
-use Rattle.job.specs.declared.steps.Progress.{Progress}
+use Rattle.job.specs.Job.{Outcome, accepted, refused, refusal, readJob}
 use Rattle.job.specs.declared.Reading.{Reading}
 use Rattle.job.specs.declared.Reading.the-variants.{Read, Refused}
 
@@ -23,10 +14,6 @@ use Rattle.job.specs.declared.Reading.the-variants.{Read, Refused}
 abbrev pub readingOf : Outcome → Reading
 readingOf (accepted job) = Read (length (job .lows)) (length (job .groups))
 readingOf (refused r) = Refused r
-
--- the answer to a text whose lines are all taken: 01: "10 no unit line, place 0"
-unfoldable pub countsOf : Progress → Reading
-countsOf p = pick (eqb (p .units) 0) (Refused (refusal 10 0)) (Read (p .units) (p .groups))
 
 -- 01: then 1 for a table too short for the units
 unfoldable pub fitTable : ℕ → ℕ → Outcome → Outcome
@@ -48,100 +35,8 @@ abbrev pub highsAfter : Outcome → List ℕ → List ℕ
 highsAfter (accepted job) highs = job .highs ++ drop (length (job .lows)) highs
 highsAfter (refused r) highs = highs
 
--- what scanning a text answers, and where it is accepted, what the lists begin with
-pub record Scanned (text lows₀ highs₀ flat₀ lows highs flat : List ℕ) (r : Reading) : Type 0 where
-  pub answer : r ≡ readingOf (readJob text)
-  pub found-lows : (job : Job) → readJob text ≡ accepted job → lows ≡ job .lows ++ drop (length (job .lows)) lows₀
-  pub found-highs : (job : Job) → readJob text ≡ accepted job → highs ≡ job .highs ++ drop (length (job .lows)) highs₀
-  pub pairs : (job : Job) → readJob text ≡ accepted job → length (job .highs) ≡ length (job .lows)
-  pub found-flat : (job : Job) → readJob text ≡ accepted job → flat ≡ flatten (job .groups) ++ drop (length (flatten (job .groups))) flat₀
-
--- a line has at least one byte
-pub line-long : (l : Line) → 0 < length (printLine l)
-unfolding printLine
-line-long (unit u) = omega arith
-line-long (group g) = omega arith
-
-judged-next : (v : ℕ) (j k : Job) (s r : List ℕ) (place : ℕ) → judged v j s place ≡ next k r → s ≡ r
-judged-next zero j k s r place h = cc
-judged-next (suc v) j k s r place h = absurd (let z : _≡_ {A = ℕ} 0 1 = cc in omega arith)
-
--- a line that is taken has at least one byte
-step-shorter : (job : Job) (s : List ℕ) (p : Parsed Line) → line s ≡ p → (k : Job) (r : List ℕ) → stepOn job p ≡ next k r → length r < length s
-unfolding stepOn
-step-shorter job s failed e k r h = absurd (let z : _≡_ {A = ℕ} 0 1 = cc in omega arith)
-step-shorter job s (parsed l t) e k r h =
-    let n : t ≡ r = judged-next (verdict job l) (add job l) k t r (placeOf job) h in
-    omega (arith, ap length (printed-line s e), length-append (printLine l) t, line-long l, ap length n)
-
--- the next line is taken
-pub read-next : (n : ℕ) (job : Job) (s : List ℕ) (k : Job) (r : List ℕ) → 0 < length s → length s ≤ n → stepOn job (line s) ≡ next k r → (m : ℕ) × (length r ≤ m) × (length r < length s) × (readLines n job s ≡ readLines m k r)
-unfolding readLines onward
-read-next zero job s k r p l h = absurd (omega arith)
-read-next (suc n) job [] k r p l h = absurd (omega arith)
-read-next (suc n) job (b ∷ s) k r p l h =
-    let d = step-shorter job (b ∷ s) (line (b ∷ s)) refl k r h in
-    (n, omega arith, d, rw h)
-
--- the next line is refused
-pub read-stop : (n : ℕ) (job : Job) (s : List ℕ) (r : Refusal) → 0 < length s → length s ≤ n → stepOn job (line s) ≡ stop r → readLines n job s ≡ refused r
-unfolding readLines onward
-read-stop zero job s r p l h = absurd (omega arith)
-read-stop (suc n) job [] r p l h = absurd (omega arith)
-read-stop (suc n) job (b ∷ s) r p l h = rw h
-
--- the lines are done
-pub read-end : (n : ℕ) (job : Job) → readLines n job [] ≡ accepted job
-unfolding readLines
-read-end zero job = refl
-read-end (suc n) job = refl
-
 -- what reading a text into a table answers, and what it leaves there
 pub record Filled (text lows₀ highs₀ lows highs : List ℕ) (r : Reading) : Type 0 where
   pub answer : r ≡ readingOf (readTable text (length lows₀) (length highs₀))
   pub lows-are : lows ≡ lowsAfter (readTable text (length lows₀) (length highs₀)) lows₀
   pub highs-are : highs ≡ highsAfter (readTable text (length lows₀) (length highs₀)) highs₀
-
--- a text refused leaves the table
-pub filled-refused : (text lows highs : List ℕ) (r : Refusal) → readTable text (length lows) (length highs) ≡ refused r → Filled text lows highs lows highs (Refused r)
-filled-refused text lows highs r e = record { answer = rw e; lows-are = rw e; highs-are = rw e }
-
--- a text accepted fills it from the front of the lists that hold the job
-pub filled-accepted : (text lows₀ highs₀ lows highs least greatest rest past : List ℕ) (job : Job) (units groups : ℕ) → readTable text (length lows₀) (length highs₀) ≡ accepted job → length (job .lows) ≡ units → length (job .highs) ≡ units → length (job .groups) ≡ groups → least ≡ job .lows ++ rest → greatest ≡ job .highs ++ past → lows ≡ take units least ++ drop units lows₀ → highs ≡ take units greatest ++ drop units highs₀ → Filled text lows₀ highs₀ lows highs (Read units groups)
-filled-accepted text lows₀ highs₀ lows highs least greatest rest past job units groups e u v g l m f h =
-    record {
-      answer = rw (e, u, g);
-      lows-are = rw (e, f, l, u, take-at (job .lows) rest units u);
-      highs-are = rw (e, h, m, u, take-at (job .highs) past units v);
-    }
-
--- the outcome behind an answer
-pub accepted-by : (o : Outcome) (units groups : ℕ) → Read units groups ≡ readingOf o → (job : Job) × (o ≡ accepted job) × (length (job .lows) ≡ units) × (length (job .groups) ≡ groups)
-accepted-by (accepted job) units groups h = (job, refl, cc, cc)
-accepted-by (refused r) units groups h = absurd (let z : _≡_ {A = ℕ} 0 1 = cc in omega arith)
-
--- the refusal behind an answer
-pub refused-by : (o : Outcome) (r : Refusal) → Refused r ≡ readingOf o → o ≡ refused r
-refused-by (accepted job) r h = absurd (let z : _≡_ {A = ℕ} 0 1 = cc in omega arith)
-refused-by (refused q) r h = cc
-
-module _ (text : List ℕ) (a b : ℕ) where
-  -- a refusal of the text comes first
-  pub table-refused : (r : Refusal) → readJob text ≡ refused r → readTable text a b ≡ refused r
-  unfolding readTable fitTable
-  table-refused r e = rw e
-
-  -- too few lows
-  pub table-short : (job : Job) → readJob text ≡ accepted job → a < length (job .lows) → readTable text a b ≡ refused (refusal 1 0)
-  unfolding readTable fitTable
-  table-short job e h = rw (e, lt-leb (length (job .lows)) a h)
-
-  -- a table long enough
-  pub table-fits : (job : Job) → readJob text ≡ accepted job → length (job .lows) ≤ a → length (job .lows) ≤ b → readTable text a b ≡ accepted job
-  unfolding readTable fitTable
-  table-fits job e h k = rw (e, le-leb (length (job .lows)) a h, le-leb (length (job .lows)) b k)
-
-  -- too few highs
-  pub table-short-highs : (job : Job) → readJob text ≡ accepted job → length (job .lows) ≤ a → b < length (job .lows) → readTable text a b ≡ refused (refusal 1 0)
-  unfolding readTable fitTable
-  table-short-highs job e h k = rw (e, le-leb (length (job .lows)) a h, lt-leb (length (job .lows)) b k)

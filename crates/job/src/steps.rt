@@ -2,11 +2,12 @@
 ghost use mathlib.Core.Path.{_≡_};
 ghost use Prim.Native.Nat.{_≤_};
 ghost use lib.ListN.{length};
-ghost use Rattle.groups.specs.Flat.{mostFlat};
+ghost use Rattle.groups.specs.Inner.Flat.{mostFlat};
 ghost use Rattle.job.specs.Job.{mostBytes, mostUnits, refusal, unitVerdict, headVerdict, distinct};
-ghost use Rattle.job.specs.Distinct.{AllBelow, freshBy};
-ghost use Rattle.job.specs.Steps.{Bounded, UnitTaken, GroupTaken, LineTaken};
-ghost use Rattle.job.specs.Taking.{placeAt};
+ghost use Rattle.job.specs.Below.{AllBelow};
+ghost use Rattle.job.specs.Inner.Distinct.{freshBy};
+ghost use Rattle.job.specs.Inner.Steps.{Bounded, UnitTaken, GroupTaken, LineTaken};
+ghost use Rattle.job.specs.Inner.Taking.{placeAt};
 use crate::lines::GroupRead;
 use crate::lines::Head;
 use crate::lines::UnitRead;

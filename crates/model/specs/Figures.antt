@@ -1,5 +1,5 @@
 -- The figures of a group's shares, and its limits. Assumes nothing.
-use Prim.Native.Nat.{ℕ, _+_, _-_, _*_}
+use Prim.Native.Nat.{ℕ, _+_, _-_, _*_, max}
 use mathlib.Core.Bool.{Bool, true, _&&_}
 use mathlib.Core.List.{List}
 use lib.Dec.{leb}
@@ -53,3 +53,7 @@ met limits figures = allows (limits .deviation) (figures .deviation .0) && allow
 -- 01: both figures within the limits
 abbrev pub meets : Limits → ℕ → ℕ → List ℕ → Bool
 meets limits n total xs = met limits (figuresOf n total xs)
+
+-- 01: "twice the larger of two sums: of S − n × high over members where that is positive, and of n × low − S likewise"
+abbrev pub deviationBound : ℕ → ℕ → List ℕ → List ℕ → ℕ
+deviationBound n total lows highs = 2 * max (sumOf (λ h. total - n * h) highs) (sumOf (λ l. n * l - total) lows)

@@ -1,14 +1,12 @@
--- The known shares of 01 for one group: one list of cases, and one check that computes over it. Assumes nothing.
+-- The known shares of 01 for one group: one list of cases, and the check that computes over it. Assumes nothing.
 use Prim.Native.Nat.{ℕ}
 use mathlib.Core.Bool.{Bool, true, false, _&&_}
 use mathlib.Core.List.{List, [], _∷_}
-use mathlib.Core.Path.{_≡_, refl}
 use lib.Dec.{eqb}
 use lib.ListN.{length, replicate}
-use Rattle.model.specs.Shares.{sum, sumOf}
 use Rattle.model.specs.Figures.{deviation, spread}
-use Rattle.model.specs.Levels.{clamped, totalAt, levelBelow, level, topped, remainder, levelled}
-use Rattle.model.specs.Plans.{hasPlan, turnOf, firstUp, firstDown, narrowedLow, narrowedHigh, tabulate, narrowedLows, narrowedHighs}
+use Rattle.model.specs.Levels.{level, levelled}
+use Rattle.model.specs.Plans.{turnOf, narrowedLows, narrowedHighs}
 use Rattle.model.specs.declared.Limit.{Limit}
 use Rattle.model.specs.declared.Limit.the-variants.{Any, AtMost}
 use Rattle.model.specs.declared.Limits.{Limits}
@@ -87,8 +85,3 @@ known =
     ∷ refuses (three 5) Any Any 11
     ∷ refuses (three 19) Any Any 11
     ∷ []
-
--- every known share holds of the definitions
-pub known-shares : all known ≡ true
-unfolding all holds known first ten three sameList sum sumOf deviation spread clamped totalAt levelBelow level topped remainder levelled hasPlan turnOf firstUp firstDown narrowedLow narrowedHigh tabulate narrowedLows narrowedHighs
-known-shares = refl

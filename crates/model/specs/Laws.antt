@@ -4,7 +4,6 @@ pub mod Shares
 pub mod Lists
 pub mod Writing
 pub mod Walk
-pub mod Even
 pub mod Transfer
 pub mod Least
 pub mod Level
@@ -18,3 +17,4 @@ pub mod Narrowing
 pub mod Keeping
 pub mod Ends
 pub mod Turns
+pub mod Known

@@ -4,4 +4,8 @@ pub mod Levels
 pub mod Plans
 pub mod Groups
 pub mod Known
+pub mod Even
+pub mod Narrowing
+pub mod Transfers
+pub mod Verdicts
 pub mod Laws

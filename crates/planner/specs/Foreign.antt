@@ -1,5 +1,4 @@
 -- The planner's answers as C and Rust get them: structs of numbers, with refusal number 0 where there is none. Assumes nothing.
-use mathlib.Core.Bool.{Bool}
 use Rattle.model.specs.Shares.{pick}
 use Rattle.model.specs.declared.Limit.{Limit}
 use Rattle.model.specs.declared.Limit.the-variants.{Any, AtMost}

@@ -1,18 +1,13 @@
 -- What levelling and narrowing promise C and Rust: demand 2 where the refusal's number is 0, and 01's words for any other. Assumes nothing.
 use Prim.Native.Nat.{ℕ, _≤_}
 use mathlib.Core.List.{List}
-use mathlib.Core.Path.{_≡_, refl, sym, ap, _∙_}
-use native.Mathlib.Omega.{arith}
+use mathlib.Core.Path.{_≡_}
 use lib.ListN.{length}
 use Rattle.model.specs.declared.Figures.{Figures}
 use Rattle.model.specs.declared.Refusal.{Refusal}
-use Rattle.group.specs.Answers.{LevelFinding, level-exactly, level-number, level-between}
-use Rattle.group.specs.Answers.{NarrowFinding, narrow-exactly, narrow-number, narrow-between}
+use Rattle.group.specs.Answers.{LevelFinding, NarrowFinding}
 use Rattle.group.specs.Findings.{refusal}
-use Rattle.group.specs.Levelling.{levelling}
-use Rattle.group.specs.Narrowing.{narrowing}
-use Rattle.group.specs.Promises.{LevelPromise, planLeft, level-promised, level-unchanged}
-use Rattle.group.specs.Promises.{NarrowPromise, lowsLeft, highsLeft, narrow-promised, narrow-unchanged}
+use Rattle.group.specs.Promises.{LevelPromise, NarrowPromise}
 use Rattle.group.specs.declared.Levelling.{Levelling}
 use Rattle.group.specs.declared.Levelling.the-variants as level
 use Rattle.group.specs.declared.Narrowing.{Narrowing}
@@ -41,30 +36,6 @@ pub record ForeignLevelPromise (lows highs : List ℕ) (total : ℕ) (plan : Lis
   -- it is given wherever they hold
   pub given : {words : Levelling} → LevelFinding lows highs total (length plan) words → answer ≡ foreignLevelled words
 
--- it keeps that promise, for any lists
-pub foreign-level-promised : (lows highs : List ℕ) (total : ℕ) (plan : List ℕ)
-    → ForeignLevelPromise lows highs total plan (foreignLevelled (levelling lows highs total (length plan))) (planLeft lows highs total plan)
-foreign-level-promised lows highs total plan = by-answer (levelling lows highs total (length plan)) refl
-  where
-    given-by : {answer words : Levelling} → levelling lows highs total (length plan) ≡ answer
-        → LevelFinding lows highs total (length plan) words → foreignLevelled answer ≡ foreignLevelled words
-    given-by is finding = ap foreignLevelled (sym is ∙ level-exactly lows highs total (length plan) _ .1 finding)
-
-    by-answer : (answer : Levelling) → levelling lows highs total (length plan) ≡ answer
-        → ForeignLevelPromise lows highs total plan (foreignLevelled answer) (planLeft lows highs total plan)
-    by-answer (level.Levelled v figures) is = record {
-      accepted = λ none. level-promised lows highs total plan is;
-      refused = λ some. absurd (omega arith);
-      given = given-by is;
-    }
-    by-answer (level.Refused refused) is =
-        let finding = level-exactly lows highs total (length plan) _ .0 is in
-        record {
-          accepted = λ none. absurd (omega (arith, level-between (level-number finding)));
-          refused = λ some. (finding, level-unchanged lows highs total plan is);
-          given = given-by is;
-        }
-
 -- what `danivomel_narrow` promises of its answer and of both lists
 pub record ForeignNarrowPromise (lows highs : List ℕ) (total : ℕ) (limits : ForeignLimits) (answer : ForeignRefusal)
     (lowsAfter highsAfter : List ℕ) : Type 0 where
@@ -75,33 +46,3 @@ pub record ForeignNarrowPromise (lows highs : List ℕ) (total : ℕ) (limits : 
       → NarrowFinding lows highs total (limitsOf limits) (narrow.Refused (refusalOf answer)) × (lowsAfter ≡ lows) × (highsAfter ≡ highs)
   -- it is given wherever they hold
   pub given : {words : Narrowing} → NarrowFinding lows highs total (limitsOf limits) words → answer ≡ foreignNarrowed words
-
--- it keeps that promise, for any lists
-pub foreign-narrow-promised : (lows highs : List ℕ) (total : ℕ) (limits : ForeignLimits)
-    → ForeignNarrowPromise lows highs total limits (foreignNarrowed (narrowing lows highs total (limitsOf limits)))
-    (lowsLeft lows highs total (limitsOf limits)) (highsLeft lows highs total (limitsOf limits))
-foreign-narrow-promised lows highs total limits = by-answer (narrowing lows highs total (limitsOf limits)) refl
-  where
-    given-by : {answer words : Narrowing} → narrowing lows highs total (limitsOf limits) ≡ answer
-        → NarrowFinding lows highs total (limitsOf limits) words → foreignNarrowed answer ≡ foreignNarrowed words
-    given-by is finding = ap foreignNarrowed (sym is ∙ narrow-exactly lows highs total (limitsOf limits) _ .1 finding)
-
-    by-answer : (answer : Narrowing) → narrowing lows highs total (limitsOf limits) ≡ answer
-        → ForeignNarrowPromise lows highs total limits (foreignNarrowed answer)
-        (lowsLeft lows highs total (limitsOf limits)) (highsLeft lows highs total (limitsOf limits))
-    by-answer narrow.Narrowed is = record {
-      accepted = λ none. narrow-promised lows highs total (limitsOf limits) is;
-      refused = λ some. absurd (omega arith);
-      given = given-by is;
-    }
-    by-answer (narrow.Refused refused) is =
-        let finding = narrow-exactly lows highs total (limitsOf limits) _ .0 is in
-        record {
-          accepted = λ none. absurd (omega (arith, narrow-between (narrow-number finding)));
-          refused = λ some. (
-            finding,
-            narrow-unchanged lows highs total (limitsOf limits) is .0,
-            narrow-unchanged lows highs total (limitsOf limits) is .1,
-          );
-          given = given-by is;
-        }

@@ -1,3 +1,3 @@
-pub mod Written
 pub mod Items
-pub mod Lengths
+pub mod Inner
+pub mod Laws

@@ -3,7 +3,7 @@ ghost use Prim.Native.Nat.{_+_, _<_};
 ghost use mathlib.Core.List.{[], _∷_};
 ghost use Rattle.text.specs.Numbers.{printNumber};
 ghost use Rattle.print.specs.Items.{item, items, form, line};
-ghost use Rattle.print.specs.Written.{Room, Wrote};
+ghost use Rattle.print.specs.Inner.Written.{Room, Wrote};
 
 // Writes a byte and hands back the index after it.
 fn put_byte(buffer: &mut [u8], at: usize, byte: u8) -> usize

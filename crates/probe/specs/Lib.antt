@@ -1,13 +1,2 @@
-pub mod Sums
-pub mod Spans
-pub mod Pins
-pub mod Orders
-pub mod Rows
-pub mod Walks
-pub mod Tables
-pub mod Steps
-pub mod Fills
-pub mod Probes
-pub mod Figures
-pub mod Verdicts
-pub mod Reaching
+pub mod Inner
+pub mod Laws

@@ -8,9 +8,9 @@ use model::lists::copy;
 ghost use mathlib.Core.Path.{_≡_};
 ghost use Prim.Native.Nat.{_+_, _*_, _≤_};
 ghost use lib.ListN.{length};
-ghost use Rattle.probe.specs.Orders.{Ordered};
-ghost use Rattle.probe.specs.Tables.{Sound, Table};
-ghost use Rattle.probe.specs.Steps.{Risen};
+ghost use Rattle.probe.specs.Inner.Orders.{Ordered};
+ghost use Rattle.probe.specs.Inner.Tables.{Sound, Table};
+ghost use Rattle.probe.specs.Inner.Steps.{Risen};
 
 // Fills the table from the sorted bounds, row after row.
 fn fill(lows: &[u64], highs: &[u64], starts: &[u64], stops: &[u64], total: u64, table: &mut [u64])

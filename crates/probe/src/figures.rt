@@ -7,8 +7,8 @@ use model::Deviation;
 ghost use mathlib.Core.Path.{_≡_};
 ghost use Prim.Native.Nat.{suc, _+_, _*_, _≤_};
 ghost use Rattle.model.specs.Shares.{greatestTotal};
-ghost use Rattle.probe.specs.Tables.{fromMean, square};
-ghost use Rattle.probe.specs.Figures.{Parts, Moves, Summable};
+ghost use Rattle.probe.specs.Inner.Tables.{fromMean, square};
+ghost use Rattle.probe.specs.Inner.Figures.{Parts, Moves, Summable};
 
 // A row's sum with the value's part in place of the member's own, and the parts that moved from the row's level to the one reached.
 fn moved_parts(

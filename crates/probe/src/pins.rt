@@ -7,8 +7,8 @@ ghost use mathlib.Core.Path.{_≡_};
 ghost use Prim.Native.Nat.{_+_, _-_, _≤_, _<_};
 ghost use Rattle.model.specs.Shares.{greatestShare, greatestTotal};
 ghost use Rattle.model.specs.Levels.{clamp, growth};
-ghost use Rattle.probe.specs.Rows.{rowAt};
-ghost use Rattle.probe.specs.Probes.{Pinnable, Probeable, Found, IntoReach, Divided, pinnedTotal};
+ghost use Rattle.probe.specs.Inner.Rows.{rowAt};
+ghost use Rattle.probe.specs.Inner.Probes.{Pinnable, Probeable, Found, IntoReach, Divided, pinnedTotal};
 
 // A level, how many members grew up to it from the row below, and the copies left over there.
 pub struct Reach {

@@ -14,10 +14,10 @@ ghost use Prim.Native.Nat.{_*_, _≤_, _<_};
 ghost use lib.ListN.{length, getD};
 ghost use Rattle.model.specs.Shares.{greatestShare};
 ghost use Rattle.model.specs.Plans.{hasPlan, taken};
-ghost use Rattle.probe.specs.Rows.{rowAt};
-ghost use Rattle.probe.specs.Tables.{Sound, Table};
-ghost use Rattle.probe.specs.Probes.{Found, InReach, LevelledOn, pinnedTotal};
-ghost use Rattle.probe.specs.Verdicts.{Asked, PinnedFigures};
+ghost use Rattle.probe.specs.Inner.Rows.{rowAt};
+ghost use Rattle.probe.specs.Inner.Tables.{Sound, Table};
+ghost use Rattle.probe.specs.Inner.Probes.{Found, InReach, LevelledOn, pinnedTotal};
+ghost use Rattle.probe.specs.Inner.Verdicts.{Asked, PinnedFigures};
 
 // The figures of the pinned group's levelled shares, from the row below its level.
 fn pinned_figures(

@@ -2,7 +2,7 @@
 ghost use mathlib.Core.Path.{_≡_};
 ghost use Prim.Native.Nat.{_+_, _*_, _≤_};
 ghost use lib.ListN.{length};
-ghost use Rattle.probe.specs.Rows.{rowAt, Written};
+ghost use Rattle.probe.specs.Inner.Rows.{rowAt, Written};
 
 // A breakpoint: its level, T there, the sum of |n × share − S| and the sum of squares of the shares there, and how many lows and highs are passed.
 pub struct Row {

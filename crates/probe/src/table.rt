@@ -5,9 +5,9 @@ ghost use mathlib.Core.Path.{_≡_};
 ghost use Prim.Native.Nat.{suc, _+_, _*_, _≤_, _<_};
 ghost use Rattle.model.specs.Shares.{greatestShare};
 ghost use lib.ListN.{length};
-ghost use Rattle.probe.specs.Walks.{First};
-ghost use Rattle.probe.specs.Steps.{Risen, Walk, Stepped, Begun};
-ghost use Rattle.probe.specs.Tables.{Sound, Sums, SpanTo, Movable, Moved, fromMean, square};
+ghost use Rattle.probe.specs.Inner.Walks.{First};
+ghost use Rattle.probe.specs.Inner.Steps.{Risen, Walk, Stepped, Begun};
+ghost use Rattle.probe.specs.Inner.Tables.{Sound, Sums, SpanTo, Movable, Moved, fromMean, square};
 
 // A share's part of the deviation.
 pub fn from_mean(count: u64, total: u64, x: u64) -> u64

@@ -1,24 +1,8 @@
--- 01's report of its example job, and what the program prints of that job's text, computed. Assumes nothing.
+-- 01's report of its example job, and that job's text. Assumes nothing.
 use Prim.Native.Nat.{ℕ}
-use mathlib.Core.List.{List, [], _∷_, flatten, map}
-use mathlib.Core.Path.{_≡_, refl, ap, _∙_}
-use Rattle.model.specs.Shares.{sum, sumOf}
-use Rattle.model.specs.Figures.{deviation, spread}
-use Rattle.model.specs.Levels.{clamped, totalAt, levelBelow, level, topped, remainder, levelled}
+use mathlib.Core.List.{List, [], _∷_, flatten}
+use Rattle.model.specs.Figures.{spread}
 use Rattle.text.specs.Words.{bytes}
-use Rattle.text.specs.Numbers.{digitsOf, printNumber}
-use Rattle.print.specs.Items.{item, items, form, line}
-use Rattle.model.specs.Known.{sameList}
-use Rattle.model.specs.Plans.{hasPlan, turnOf, firstUp, firstDown, narrowedLow, narrowedHigh, tabulate, narrowedLows, narrowedHighs}
-use Rattle.works.specs.Tables.{widths, gather, scatter}
-use Rattle.works.specs.Settling.{narrowed, revise, passFrom, settleFrom, settle}
-use Rattle.works.specs.Known.{example, exampleTable}
-use Rattle.job.specs.Form.{printLimit, printMembers, printLine}
-use Rattle.job.specs.Job.{readLines, someUnit, readJob}
-use Rattle.job.specs.Worked.{workedLines, printLines, workedJob, worked-reads}
-use Rattle.report.specs.Lines.{settledLine, unitLine, groupLine, refusalLine}
-use Rattle.report.specs.Program.{printedRead, printedOf}
-use Rattle.report.specs.Reports.{unitLines, levelledLine, groupLines, reportOf, printed}
 
 -- 01: "For the job above, whole"
 unfoldable pub exampleReport : List ℕ
@@ -32,15 +16,6 @@ exampleReport =
     ∷ bytes "(group 2 4 0 0 (plan 4 4))\n"
     ∷ [])
 
-pub example-report : printed example (settle example exampleTable) ≡ exampleReport
-unfolding printed reportOf groupLines levelledLine unitLines groupLine line form items item flatten printNumber digitsOf exampleReport example exampleTable settle settleFrom passFrom revise narrowed widths gather scatter sameList sum sumOf deviation spread clamped totalAt levelBelow level topped remainder levelled hasPlan turnOf firstUp firstDown narrowedLow narrowedHigh tabulate narrowedLows narrowedHighs
-example-report = refl
-
--- 01: "A refusal prints one line"
-pub example-refusal : refusalLine 12 1 ≡ bytes "(refused 12 1)\n"
-unfolding line form items item flatten printNumber digitsOf
-example-refusal = refl
-
 -- 01's job text
 unfoldable pub exampleText : List ℕ
 exampleText =
@@ -51,17 +26,3 @@ exampleText =
     ∷ bytes "(group 10 (dev 4) (spread any) (of 1 2))\n"
     ∷ bytes "(group 8 (dev any) (spread 4) (of 2 3))\n"
     ∷ [])
-
-example-lines : exampleText ≡ printLines workedLines
-unfolding exampleText flatten workedLines printLines printLine printLimit printMembers printNumber digitsOf
-example-lines = refl
-
--- the program prints 01's report of 01's job text
-pub example-printed : printedOf exampleText ≡ exampleReport
-unfolding printedOf printedRead workedJob example exampleTable
-example-printed = ap printedOf example-lines ∙ ap printedRead worked-reads ∙ example-report
-
--- 01: "Empty text is 10"
-pub empty-printed : printedOf [] ≡ bytes "(refused 10 0)\n"
-unfolding printedOf printedRead readJob readLines someUnit line form items item flatten printNumber digitsOf
-empty-printed = refl

@@ -2,15 +2,11 @@ pub mod Lines
 pub mod Reports
 pub mod Calls
 pub mod Ready
-pub mod Lengths
-pub mod Printing
 pub mod Evenness
-pub mod Settled
-pub mod Texts
 pub mod Promises
 pub mod Places
-pub mod Cut
 pub mod Orders
 pub mod Program
-pub mod Printed
 pub mod Known
+pub mod Inner
+pub mod Laws

@@ -14,13 +14,14 @@ ghost use Prim.Native.Nat.{_≤_};
 ghost use mathlib.Core.List.{_++_};
 ghost use mathlib.Core.Path.{_≡_};
 ghost use lib.ListN.{length, drop};
-ghost use Rattle.groups.specs.Flat.{mostFlat, Holds, groupsIn};
+ghost use Rattle.groups.specs.Inner.Flat.{mostFlat, Holds, groupsIn};
 ghost use Rattle.job.specs.Job.{mostBytes};
 ghost use Rattle.report.specs.Calls.{reported, reportSettled, reportText};
-ghost use Rattle.report.specs.Ready.{Reportable, WithinLimits, Workspace};
+ghost use Rattle.report.specs.Ready.{Reportable};
+ghost use Rattle.report.specs.Inner.Ready.{WithinLimits, Workspace};
 ghost use Rattle.report.specs.Reports.{reportOf};
 ghost use Rattle.works.specs.Calls.{settleJob};
-ghost use Rattle.works.specs.Ready.{Prepared};
+ghost use Rattle.works.specs.Inner.Ready.{Prepared};
 ghost use Rattle.works.specs.Tables.{tableOf};
 
 // Writes the report of a settled table at the start of a buffer, and hands back its length.

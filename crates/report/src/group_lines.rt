@@ -10,10 +10,11 @@ ghost use mathlib.Core.List.{flatten};
 ghost use mathlib.Core.Path.{_≡_};
 ghost use lib.ListN.{length};
 ghost use Rattle.group.specs.Sound.{HasShares};
-ghost use Rattle.print.specs.Written.{Room, Wrote};
-ghost use Rattle.report.specs.Ready.{Levelable, Workspace, Rooms, Printable};
+ghost use Rattle.print.specs.Inner.Written.{Room, Wrote};
+ghost use Rattle.report.specs.Ready.{Levelable};
+ghost use Rattle.report.specs.Inner.Ready.{Workspace, Rooms, Printable};
 ghost use Rattle.report.specs.Reports.{levelledLine, lineOf, groupLines};
-ghost use Rattle.groups.specs.Flat.{groupIn, groupsIn};
+ghost use Rattle.groups.specs.Inner.Flat.{groupIn, groupsIn};
 ghost use Rattle.works.specs.Tables.{Named, gather, tableOf};
 
 // Levels a group and writes its line; the plan is room for its shares. Hands back the index after the line.

@@ -9,7 +9,7 @@ ghost use mathlib.Core.Path.{_≡_};
 ghost use Prim.Native.Nat.{_≤_};
 ghost use lib.ListN.{length, drop};
 ghost use Rattle.job.specs.Job.{mostBytes};
-ghost use Rattle.report.specs.Printed.{Lent, Opened};
+ghost use Rattle.report.specs.Inner.Printed.{Lent, Opened};
 ghost use Rattle.report.specs.Program.{printedOf};
 
 // Reports a job over the table that its unit lines have filled, at the start of a buffer, and hands back the length of what is printed.

@@ -6,7 +6,7 @@ use report::program::print_job;
 ghost use Prim.Native.Nat.{_≤_};
 ghost use mathlib.Core.Path.{_≡_};
 ghost use lib.ListN.{length};
-ghost use Rattle.settle.specs.Inputs.{bytesRead};
+ghost use Rattle.settle.specs.Inner.Inputs.{bytesRead};
 
 // What reading the input gives: the count of its bytes, or a failed read.
 enum Input {

@@ -33,7 +33,7 @@ use denote.Triple.Clauses.{ensured, lasts}
 use denote.Triple.Walked.{says}
 use Rattle.table.specs.declared.Range.{Range}
 use Rattle.table.specs.declared.Bounds.{Bounds}
-use Rattle.table.specs.Tables.{over, ranges, boundsOf}
+use Rattle.table.specs.Inner.Tables.{over, ranges, boundsOf}
 use Rattle.job.proofs.Lending.{sliceAt, LentShared, lends-shared, shared-back}
 use Rattle.table.proofs.Range as T
 use Rattle.table.proofs.Bounds as B

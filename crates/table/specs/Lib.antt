@@ -1,3 +1,3 @@
 pub mod Tables
+pub mod Inner
 pub mod Laws
-pub mod Fronts

@@ -9,7 +9,8 @@ ghost use lib.ListN.{length};
 ghost use Rattle.job.specs.Reading.{Filled};
 ghost use Rattle.report.specs.Calls.{reported, reportText};
 ghost use Rattle.works.specs.Calls.{settlement, settleText};
-ghost use Rattle.table.specs.Tables.{lowsOf, highsOf, boundsOf, over, ranges, afterSettling, afterReporting, bufferAfter, afterReading};
+ghost use Rattle.table.specs.Tables.{lowsOf, highsOf};
+ghost use Rattle.table.specs.Inner.Tables.{boundsOf, over, ranges, afterSettling, afterReporting, bufferAfter, afterReading};
 
 // The range of a unit.
 #[repr(C)]

@@ -2,5 +2,5 @@ pub mod Words
 pub mod Kinds
 pub mod Parsed
 pub mod Numbers
-pub mod Printed
-pub mod Spots
+pub mod Inner
+pub mod Laws

@@ -1,5 +1,5 @@
 -- Numbers in base ten. Assumes nothing.
-use Prim.Native.Nat.{ℕ, zero, suc, _+_, _-_, _*_, _/_, _%_, min}
+use Prim.Native.Nat.{ℕ, zero, suc, _+_, _-_, _*_, _/_, _%_}
 use mathlib.Core.Bool.{Bool, true, false}
 use mathlib.Core.List.{List, [], _∷_, _++_}
 use lib.Dec.{eqb, ltb}
@@ -41,11 +41,3 @@ digitsOf (suc steps) v =
 -- a number as it is written
 unfoldable pub printNumber : ℕ → List ℕ
 printNumber v = digitsOf (suc v) v
-
--- a number as the code holds it: above every limit of 01 all are alike
-abbrev pub most : ℕ
-most = 1_000_000_000_000_000_000
-
--- the value, or the greatest that is told apart
-abbrev pub held : ℕ → ℕ
-held v = min v most

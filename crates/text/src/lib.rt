@@ -4,8 +4,9 @@ ghost use Prim.Native.Nat.{_+_, _*_, _≤_, _<_};
 ghost use lib.ListN.{length, drop};
 ghost use Rattle.text.specs.Kinds.{kindOf};
 ghost use Rattle.text.specs.Parsed.{word, mapped};
-ghost use Rattle.text.specs.Numbers.{number, numberAfter, held, most};
-ghost use Rattle.text.specs.Spots.{stepped, counted, firstDigit, digitsHeld};
+ghost use Rattle.text.specs.Numbers.{number, numberAfter};
+ghost use Rattle.text.specs.Inner.Numbers.{held, most};
+ghost use Rattle.text.specs.Inner.Spots.{stepped, counted, firstDigit, digitsHeld};
 
 // The kind of a byte, by its number.
 pub enum Kind {

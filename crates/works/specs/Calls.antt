@@ -2,6 +2,8 @@
 use Prim.Native.Nat.{ℕ, _*_}
 use mathlib.Core.Bool.{Bool, true, not, _&&_}
 use mathlib.Core.List.{List, _++_}
+use mathlib.Core.Logic.{_⊎_}
+use mathlib.Core.Path.{_≡_}
 use lib.Dec.{leb}
 use lib.ListN.{length, take, drop}
 use Rattle.group.specs.Checks.{refuseIf, checkLists}
@@ -59,3 +61,7 @@ settleText text lows highs scratch =
       | accepted found ↦ settleJob (found .groups) (length (found .lows)) lows highs scratch
       | refused refusal ↦ settlement (Refused refusal) lows highs
     ]
+
+-- 01: refused for want of a plan
+abbrev pub WantOfPlan : ℕ → Type 0
+WantOfPlan number = (number ≡ 11) ⊎ (number ≡ 12)

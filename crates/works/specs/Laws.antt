@@ -16,3 +16,5 @@ pub mod Refusals
 pub mod Called
 pub mod Repeated
 pub mod Orders
+pub mod Answers
+pub mod Known

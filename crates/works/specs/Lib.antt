@@ -3,6 +3,9 @@ pub mod Settling
 pub mod Answers
 pub mod Calls
 pub mod Consistency
-pub mod Ready
 pub mod Known
+pub mod Called
+pub mod Endings
+pub mod Reordering
+pub mod Inner
 pub mod Laws

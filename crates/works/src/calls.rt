@@ -11,10 +11,10 @@ ghost use mathlib.Core.Path.{_≡_};
 ghost use Prim.Native.Nat.{_≤_};
 ghost use lib.ListN.{length};
 ghost use Rattle.group.specs.Sound.{greatestCount};
-ghost use Rattle.groups.specs.Flat.{mostFlat, groupsIn};
+ghost use Rattle.groups.specs.Inner.Flat.{mostFlat, groupsIn};
 ghost use Rattle.job.specs.Job.{mostUnits};
 ghost use Rattle.works.specs.Calls.{settlement, hasRoom, checkTable, settleJob, settleText};
-ghost use Rattle.works.specs.Ready.{Prepared};
+ghost use Rattle.works.specs.Inner.Ready.{Prepared};
 
 // Whether lists of these lengths are long enough for the units.
 fn has_room(units: usize, lows: usize, highs: usize, scratch: usize) -> bool

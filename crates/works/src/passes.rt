@@ -11,8 +11,8 @@ ghost use mathlib.Core.Path.{_≡_};
 ghost use lib.ListN.{length};
 ghost use Rattle.model.specs.Known.{refusedBy};
 ghost use Rattle.works.specs.Answers.{answerOf, tableAfter};
-ghost use Rattle.groups.specs.Flat.{groupsIn};
-ghost use Rattle.works.specs.Ready.{Workspace, Opening};
+ghost use Rattle.groups.specs.Inner.Flat.{groupsIn};
+ghost use Rattle.works.specs.Inner.Ready.{Workspace, Opening};
 ghost use Rattle.works.specs.Settling.{settle};
 ghost use Rattle.works.specs.Tables.{tableOf};
 

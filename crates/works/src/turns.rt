@@ -8,8 +8,8 @@ use model::Turn;
 ghost use Prim.Native.Nat.{_+_, _≤_};
 ghost use mathlib.Core.Path.{_≡_};
 ghost use lib.ListN.{length};
-ghost use Rattle.groups.specs.Flat.{groupIn};
-ghost use Rattle.works.specs.Ready.{groupOf, Turning, Room, Workspace};
+ghost use Rattle.groups.specs.Inner.Flat.{groupIn};
+ghost use Rattle.works.specs.Inner.Ready.{groupOf, Turning, Room, Workspace};
 ghost use Rattle.works.specs.Settling.{revisedBy, revise};
 ghost use Rattle.works.specs.Tables.{tableOf};
 

@@ -5,7 +5,7 @@ use lib.Dec.{leb}
 use lib.ListN.{length}
 use Rattle.model.specs.Shares.{greatestTotal}
 use Rattle.group.specs.Checks.{checkLists}
-use Rattle.group.specs.Findings.{check-exactly, passed-sound}
+use Rattle.group.specs.Laws.Findings.{check-exactly, passed-sound}
 use Rattle.group.specs.Levelling.{levelling}
 use Rattle.group.specs.declared.Check.the-variants.{Passed}
 use Rattle.group.proofs.level.Statement.{statement}

@@ -3,8 +3,9 @@ use borrow.Author.Needs.{needs}
 use mathlib.Core.Path.{_≡_, refl}
 use lib.ListN.{length}
 use Rattle.group.specs.Checks.{amountsWithin, checkLists}
-use Rattle.group.specs.Findings.{check-exactly, passed-sound}
-use Rattle.group.specs.Narrowing.{narrowing, after-narrowed, after-refused, answer-narrowed, answer-refused}
+use Rattle.group.specs.Laws.Findings.{check-exactly, passed-sound}
+use Rattle.group.specs.Narrowing.{narrowing}
+use Rattle.group.specs.Laws.Narrowing.{after-narrowed, after-refused, answer-narrowed, answer-refused}
 use Rattle.group.specs.declared.Check.the-variants.{Passed}
 use Rattle.group.proofs.narrow.Statement.{statement}
 use Rattle.group.proofs.narrow.Tie as tie

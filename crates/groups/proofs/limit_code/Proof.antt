@@ -2,7 +2,7 @@
 use borrow.Author.Needs.{needs}
 use native.Mathlib.Omega.{arith}
 use Prim.Native.Nat.{_+_, _≤_}
-use Rattle.groups.specs.Flat.{mostWord}
+use Rattle.groups.specs.Inner.Flat.{mostWord}
 use Rattle.groups.proofs.limit_code.Statement.{statement}
 use Rattle.groups.proofs.limit_code.Tie as tie
 

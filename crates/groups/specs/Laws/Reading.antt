@@ -11,7 +11,7 @@ use Rattle.model.specs.Groups.{Group}
 use Rattle.model.specs.declared.Limit.{Limit}
 use Rattle.model.specs.declared.Limit.the-variants.{Any, AtMost}
 use Rattle.groups.specs.declared.Stored.{Stored}
-use Rattle.groups.specs.Flat.{limitCode, limitOf, flatGroup, flatten, storedAt, Whole, groupIn, groupsFrom, groupsIn, HoldsFrom, Holds}
+use Rattle.groups.specs.Inner.Flat.{limitCode, limitOf, flatGroup, flatten, storedAt, Whole, groupIn, groupsFrom, groupsIn, HoldsFrom, Holds}
 
 -- a limit's number stands for the limit
 limit-code : (limit : Limit) → limitOf (limitCode limit) ≡ limit

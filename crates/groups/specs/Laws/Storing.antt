@@ -8,7 +8,8 @@ use lib.ListN.{length, getD, drop, set, length-append, length-drop}
 use lib.Seq.{sets, sets-eq, set-at, drop-cons, drop-drop}
 use Rattle.model.specs.Groups.{Group}
 use Rattle.model.specs.declared.Limits.{Limits}
-use Rattle.groups.specs.Flat.{headOf, flatGroup, flatten, memberships, flatLength}
+use Rattle.groups.specs.Inner.Flat.{headOf, flatGroup, flatten, flatLength}
+use Rattle.groups.specs.Memberships.{memberships}
 
 -- one group more at the end
 pub flatten-snoc : (gs : List Group) (g : Group) → flatten (gs ++ g ∷ []) ≡ flatten gs ++ flatGroup g

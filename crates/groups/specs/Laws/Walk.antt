@@ -7,7 +7,7 @@ use lib.ListN.{length, drop, drop-of-length-le}
 use lib.Seq.{drop-drop}
 use Rattle.model.specs.Groups.{Group}
 use Rattle.groups.specs.declared.Stored.{Stored}
-use Rattle.groups.specs.Flat.{storedAt, Whole, groupIn, groupsFrom, groupsIn, HoldsFrom, Holds}
+use Rattle.groups.specs.Inner.Flat.{storedAt, Whole, groupIn, groupsFrom, groupsIn, HoldsFrom, Holds}
 use Rattle.groups.specs.Laws.Reading.{groups-counted}
 
 module _ (flat : List ℕ) (count : ℕ) where

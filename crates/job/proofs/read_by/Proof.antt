@@ -2,7 +2,7 @@
 use mathlib.Core.Path.{sym, ap, _∙_}
 use lib.ListN.{length, drop, length-append}
 use Rattle.job.specs.Job.{readJob}
-use Rattle.job.specs.Reading.{filled-refused, filled-accepted, accepted-by, refused-by, table-refused, table-short, table-short-highs, table-fits}
+use Rattle.job.specs.Laws.Reading.{filled-refused, filled-accepted, accepted-by, refused-by, table-refused, table-short, table-short-highs, table-fits}
 use native.Mathlib.Omega.{arith}
 use borrow.Author.Needs.{needs}
 use Rattle.job.proofs.read_by.Statement.{statement}

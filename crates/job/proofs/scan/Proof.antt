@@ -1,6 +1,6 @@
 -- A text too long is 2; any other is read line by line. Assumes nothing.
 use borrow.Author.Needs.{needs}
-use Rattle.job.specs.Scanning.{too-long, scanned-refused}
+use Rattle.job.specs.Laws.Scanning.{too-long, scanned-refused}
 use Rattle.job.proofs.scan.Statement.{statement}
 use Rattle.job.proofs.scan.Tie as tie
 

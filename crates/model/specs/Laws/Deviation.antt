@@ -1,5 +1,5 @@
 -- The deviation: twice its part on either side of the mean, and 01's bound below it, with where it is reached. Assumes nothing.
-use Prim.Native.Nat.{ℕ, suc, _+_, _-_, _*_, _≤_, _<_, max}
+use Prim.Native.Nat.{ℕ, suc, _+_, _-_, _*_, _≤_, _<_}
 use mathlib.Core.List.{List, [], _∷_}
 use mathlib.Core.Path.{_≡_, refl, sym}
 use native.Mathlib.Decide.{decLe}
@@ -8,14 +8,10 @@ use native.Mathlib.Omega.{arith}
 use lib.ListN.{length, getD}
 use Rattle.model.specs.Shares.{Ranges, Within, sum, sumOf}
 use Rattle.model.specs.Shares.Within.{none, also}
-use Rattle.model.specs.Figures.{deviation}
+use Rattle.model.specs.Figures.{deviation, deviationBound}
 use Rattle.model.specs.Levels.{levelled}
 use Rattle.model.specs.Laws.Lists.{within-length}
 use Rattle.model.specs.Laws.Levelled.{near-at, levelled-near, levelled-within, levelled-adds}
-
--- 01: "twice the larger of two sums: of S − n × high over members where that is positive, and of n × low − S likewise"
-abbrev pub deviationBound : ℕ → ℕ → List ℕ → List ℕ → ℕ
-deviationBound n total lows highs = 2 * max (sumOf (λ h. total - n * h) highs) (sumOf (λ l. n * l - total) lows)
 
 module _ (n total : ℕ) where
   -- the deviation is its part above the mean and its part below it

@@ -13,12 +13,7 @@ use Rattle.model.specs.Laws.Lists.{within-length, within-at, within-of, 
 use Rattle.model.specs.Laws.Narrowing.{kept-inside, kept-taken, taken-kept, narrowedLows-length, narrowedHighs-length, narrowedLows-at, narrowedHighs-at}
 use Rattle.model.specs.Laws.Plans.{found-plan, plan-found}
 use Rattle.model.specs.declared.Limits.{Limits}
-
--- the ranges of the first two lists lie inside those of the last two
-pub record Inside (lows′ highs′ lows highs : List ℕ) : Type 0 where
-  pub sameLows : length lows′ ≡ length lows
-  pub sameHighs : length highs′ ≡ length highs
-  pub at : (i : ℕ) → i < length lows → (getD lows i 0 ≤ getD lows′ i 0) × (getD highs′ i 0 ≤ getD highs i 0)
+use Rattle.model.specs.Narrowing.{Inside, Between}
 
 -- a plan within ranges is a plan within wider ones
 pub plan-widen : {lows′ highs′ lows highs xs : List ℕ} {total : ℕ} {limits : Limits}
@@ -55,14 +50,9 @@ narrowing-monotone {lows′} {highs′} {lows} {highs} ranges′ ranges inside t
     )
 
 module _ {lows highs : List ℕ} (ranges : Ranges lows highs) (total : ℕ) (limits : Limits) where
-  -- ranges between the opening ones and the narrowed ones
-  pub record Between (lows′ highs′ : List ℕ) : Type 0 where
-    pub inside : Inside lows′ highs′ lows highs
-    pub keeps : (i : ℕ) → i < length lows
-        → (getD lows′ i 0 ≤ narrowedLow lows highs total limits i) × (narrowedHigh lows highs total limits i ≤ getD highs′ i 0)
-
   -- they have the same plans
-  pub between-plan : {lows′ highs′ xs : List ℕ} → Between lows′ highs′ → Plan lows highs total limits xs → Plan lows′ highs′ total limits xs
+  pub between-plan : {lows′ highs′ xs : List ℕ} → Between lows highs total limits lows′ highs′ → Plan lows highs total limits xs
+      → Plan lows′ highs′ total limits xs
   between-plan {lows′} {highs′} {xs} between plan = record {
     within = within-of lows′ highs′ xs
         (between .inside .sameLows ∙ within-length (plan .within) .0)
@@ -76,7 +66,7 @@ module _ {lows highs : List ℕ} (ranges : Ranges lows highs) (total : ℕ) (lim
 
   module _ (found : hasPlan lows highs total limits ≡ true) where
     -- the narrowed ranges are between
-    pub narrowed-between : Between (narrowedLows lows highs total limits) (narrowedHighs lows highs total limits)
+    pub narrowed-between : Between lows highs total limits (narrowedLows lows highs total limits) (narrowedHighs lows highs total limits)
     narrowed-between = record {
       inside = record {
         sameLows = narrowedLows-length lows highs total limits;
@@ -96,14 +86,14 @@ module _ {lows highs : List ℕ} (ranges : Ranges lows highs) (total : ℕ) (lim
     narrowed-plans xs = (between-plan narrowed-between, plan-widen (narrowed-between .inside))
 
     -- and they are ranges
-    pub between-ranges : {lows′ highs′ : List ℕ} → Between lows′ highs′ → Ranges lows′ highs′
+    pub between-ranges : {lows′ highs′ : List ℕ} → Between lows highs total limits lows′ highs′ → Ranges lows′ highs′
     between-ranges {lows′} {highs′} between =
         ranges-of lows′ highs′ (omega (arith, between .inside .sameLows, between .inside .sameHighs, ranges-length ranges)) (λ i below.
         let under : i < length lows = omega (arith, between .inside .sameLows) in
         omega (arith, kept-inside ranges total limits found i under, between .keeps i under, between .inside .at i under, ranges-at ranges i under))
 
     -- they narrow to the same ranges: members may be narrowed one after another in place
-    pub between-narrowed : {lows′ highs′ : List ℕ} → Between lows′ highs′ → (i : ℕ) → i < length lows
+    pub between-narrowed : {lows′ highs′ : List ℕ} → Between lows highs total limits lows′ highs′ → (i : ℕ) → i < length lows
         → (narrowedLow lows′ highs′ total limits i ≡ narrowedLow lows highs total limits i)
         × (narrowedHigh lows′ highs′ total limits i ≡ narrowedHigh lows highs total limits i)
     between-narrowed {lows′} {highs′} between i below =

@@ -10,8 +10,9 @@ use lib.ListN.{length, getD, set}
 use lib.Seq.{ext-getD}
 use Rattle.model.specs.Shares.{Within, sum}
 use Rattle.model.specs.Laws.Lists.{within-length, within-at, within-set, sum-set, sum-lt}
-use Rattle.model.specs.Laws.Even.{Even}
-use Rattle.model.specs.Laws.Transfer.{transfer, transfer-from, transfer-to, Additive, additive-transfer, SchurConvex}
+use Rattle.model.specs.Even.{Even}
+use Rattle.model.specs.Transfers.{transfer, Additive, SchurConvex}
+use Rattle.model.specs.Laws.Transfer.{transfer-from, transfer-to, additive-transfer}
 
 -- a member whose share is lower in xs than in ys
 abbrev Lower : List ℕ → List ℕ → Type 0

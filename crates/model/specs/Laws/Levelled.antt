@@ -9,7 +9,7 @@ use native.Mathlib.Omega.{arith}
 use lib.ListN.{length, getD}
 use Rattle.model.specs.Shares.{greatestShare, Ranges, Within, sum}
 use Rattle.model.specs.Levels.{clamp, clamped, totalAt, level, growth, topped, remainder, levelled}
-use Rattle.model.specs.Laws.Even.{Even}
+use Rattle.model.specs.Even.{Even}
 use Rattle.model.specs.Laws.Level.{growth-step, totalAt-cons, totalAt-mono, totalAt-least, totalAt-greatest, level-holds, level-next}
 
 -- shares in their ranges add up to at least the lows

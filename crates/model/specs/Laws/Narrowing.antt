@@ -17,10 +17,7 @@ use Rattle.model.specs.Laws.Pinned.{taken-plan, plan-taken}
 use Rattle.model.specs.Laws.Plans.{meets-less, found-plan}
 use Rattle.model.specs.Laws.Search.{Passing, firstUp-passes, firstDown-passes}
 use Rattle.model.specs.declared.Limits.{Limits}
-
--- some plan gives member i the value v
-abbrev pub Taken : List ℕ → List ℕ → ℕ → Limits → ℕ → ℕ → Type 0
-Taken lows highs total limits i v = (xs : List ℕ) × Plan lows highs total limits xs × (getD xs i 0 ≡ v)
+use Rattle.model.specs.Narrowing.{Taken}
 
 module _ {lows highs : List ℕ} (ranges : Ranges lows highs) (total : ℕ) (limits : Limits) where
   -- a step toward the levelled shares makes a plan of a plan

@@ -12,7 +12,8 @@ use Rattle.model.specs.Figures.{allows, meets, deviation, spread, above}
 use Rattle.model.specs.Levels.{levelled}
 use Rattle.model.specs.Plans.{Plan, hasShares, hasPlan}
 use Rattle.model.specs.Laws.Tests.{both, both-left, both-right}
-use Rattle.model.specs.Laws.Transfer.{SchurConvex, deviation-schur, spread-schur, above-schur}
+use Rattle.model.specs.Transfers.{SchurConvex}
+use Rattle.model.specs.Laws.Transfer.{deviation-schur, spread-schur, above-schur}
 use Rattle.model.specs.Laws.Least.{least}
 use Rattle.model.specs.Laws.Levelled.{levelled-within, levelled-even, levelled-adds, within-sum-low, within-sum-high}
 use Rattle.model.specs.declared.Limit.{Limit}

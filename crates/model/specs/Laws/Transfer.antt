@@ -1,5 +1,5 @@
 -- The exchange of one copy between two members, and the figures that it never raises. Assumes nothing.
-use Prim.Native.Nat.{ℕ, suc, _+_, _-_, _*_, _≤_, _<_}
+use Prim.Native.Nat.{ℕ, suc, _+_, _-_, _*_, _<_}
 use mathlib.Core.List.{List}
 use mathlib.Core.Path.{_≡_, sym, ap}
 use mathlib.Core.Logic.{_≢_}
@@ -10,10 +10,7 @@ use lib.Seq.{getD-set-same, getD-set-other, lt-length-set}
 use Rattle.model.specs.Shares.{sumOf}
 use Rattle.model.specs.Figures.{apart, deviation, spread, above}
 use Rattle.model.specs.Laws.Lists.{sumOf-set}
-
--- 01's exchange of one copy: member i gives one to member j
-unfoldable pub transfer : ℕ → ℕ → List ℕ → List ℕ
-transfer i j xs = set (set xs i (getD xs i 0 - 1)) j (suc (getD xs j 0))
+use Rattle.model.specs.Transfers.{transfer, Additive, SchurConvex, Convex}
 
 -- members with different shares differ
 other : (xs : List ℕ) (i j : ℕ) → getD xs j 0 < getD xs i 0 → j ≢ i
@@ -34,10 +31,6 @@ transfer-to xs i j q =
     let r : j < length (set xs i (getD xs i 0 - 1)) = lt-length-set xs i _ q in
     rw getD-set-same
 
--- a sum of one part for each member, where a replaced share changes its own part alone
-pub record Additive (G : List ℕ → ℕ) (part : ℕ → ℕ → ℕ) : Type 0 where
-  pub sets : (xs : List ℕ) (i y : ℕ) → i < length xs → G (set xs i y) + part i (getD xs i 0) ≡ G xs + part i y
-
 -- an exchange changes the parts of its two members alone
 pub additive-transfer : {G : List ℕ → ℕ} {part : ℕ → ℕ → ℕ} → Additive G part
     → (xs : List ℕ) (i j : ℕ) → i < length xs → j < length xs → getD xs j 0 < getD xs i 0
@@ -51,15 +44,6 @@ additive-transfer a xs i j p q h =
       a .sets xs i (getD xs i 0 - 1) p,
       rw kept at (a .sets (set xs i (getD xs i 0 - 1)) j (suc (getD xs j 0)) (lt-length-set xs i _ q)),
     )
-
--- never raised by an exchange from a higher to a lower share
-pub record SchurConvex (F : List ℕ → ℕ) : Type 0 where
-  pub lowers : (xs : List ℕ) (i j : ℕ) → i < length xs → j < length xs
-      → getD xs j 0 < getD xs i 0 → F (transfer i j xs) ≤ F xs
-
--- one copy more adds no less to a higher share than to a lower one
-pub record Convex (f : ℕ → ℕ) : Type 0 where
-  pub bends : (a b : ℕ) → b ≤ a → f a + f (suc b) ≤ f (suc a) + f b
 
 -- a sum of a convex function of each share is never raised by an exchange
 pub sumOf-schur : {f : ℕ → ℕ} → Convex f → SchurConvex (sumOf f)

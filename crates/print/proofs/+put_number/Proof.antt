@@ -8,8 +8,9 @@ use mathlib.Core.Path.{_≡_, refl, sym}
 use borrow.Fn.Kinds.{In}
 use borrow.Fn.PlainCycle.{Measures, is, falls, and}
 use Rattle.text.specs.Numbers.{printNumber}
-use Rattle.text.specs.Printed.{print-one, print-more}
-use Rattle.print.specs.Written.{Room, Wrote, Rest, begin, room-next, next, done}
+use Rattle.text.specs.Laws.Printed.{print-one, print-more}
+use Rattle.print.specs.Inner.Written.{Room, Wrote}
+use Rattle.print.specs.Laws.Written.{Rest, begin, room-next, next, done}
 use Rattle.print.proofs.put_number.Reads as put-number
 use Rattle.print.proofs.put_number.Kinds as kinds
 use Rattle.print.proofs.+put_number.Lts-put_number as lts

@@ -2,7 +2,7 @@
 use borrow.Author.Needs.{needs}
 use native.Mathlib.Omega.{arith}
 use mathlib.Core.Path.{sym}
-use Rattle.print.specs.Written.{written-byte}
+use Rattle.print.specs.Laws.Written.{written-byte}
 use Rattle.print.proofs.put_byte.Statement.{statement}
 use Rattle.print.proofs.put_byte.Tie as tie
 

@@ -4,7 +4,8 @@ use Prim.Native.Nat.{ℕ}
 use mathlib.Core.List.{List, [], _∷_, flatten}
 use mathlib.Core.Path.{refl}
 use Rattle.print.specs.Items.{items, form}
-use Rattle.print.specs.Written.{Room, Rest, begin, room-next, next, done}
+use Rattle.print.specs.Inner.Written.{Room}
+use Rattle.print.specs.Laws.Written.{Rest, begin, room-next, next, done}
 use Rattle.print.proofs.put_form.Statement.{statement}
 use Rattle.print.proofs.put_form.Tie as tie
 

@@ -6,7 +6,8 @@ use mathlib.Core.Path.{refl}
 use Rattle.text.specs.Numbers.{printNumber}
 use Rattle.text.specs.Words.{bytes}
 use Rattle.print.specs.Items.{item}
-use Rattle.print.specs.Written.{Room, Rest, begin, room-next, next, done}
+use Rattle.print.specs.Inner.Written.{Room}
+use Rattle.print.specs.Laws.Written.{Rest, begin, room-next, next, done}
 use Rattle.print.proofs.put_item.Statement.{statement}
 use Rattle.print.proofs.put_item.Tie as tie
 

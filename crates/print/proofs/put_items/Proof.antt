@@ -7,7 +7,7 @@ use mathlib.Core.Path.{_≡_, refl, ap}
 use lib.ListN.{length, getD, drop, drop-of-length-le}
 use lib.Seq.{drop-cons}
 use Rattle.print.specs.Items.{item, items}
-use Rattle.print.specs.Written.{Rest, begin, room-next, next, done, keeps-length}
+use Rattle.print.specs.Laws.Written.{Rest, begin, room-next, next, done, keeps-length}
 use Rattle.print.proofs.put_items.Statement.{statement}
 use Rattle.print.proofs.put_items.Tie as tie
 

@@ -5,7 +5,8 @@ use mathlib.Core.List.{List, [], _∷_, flatten}
 use mathlib.Core.Path.{refl}
 use Rattle.text.specs.Words.{bytes}
 use Rattle.print.specs.Items.{form, line}
-use Rattle.print.specs.Written.{Room, Rest, begin, room-next, next, done}
+use Rattle.print.specs.Inner.Written.{Room}
+use Rattle.print.specs.Laws.Written.{Rest, begin, room-next, next, done}
 use Rattle.print.proofs.put_line.Statement.{statement}
 use Rattle.print.proofs.put_line.Tie as tie
 

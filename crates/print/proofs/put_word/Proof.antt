@@ -7,7 +7,7 @@ use mathlib.Core.Path.{_≡_, _∙_}
 use mathlib.Core.List.{List, [], _∷_, append-nil, flatten}
 use lib.ListN.{length, getD, drop, drop-of-length-le}
 use lib.Seq.{drop-cons}
-use Rattle.print.specs.Written.{Rest, begin, split, next, done, room-next, keeps-length}
+use Rattle.print.specs.Laws.Written.{Rest, begin, split, next, done, room-next, keeps-length}
 use Rattle.print.proofs.put_word.Statement.{statement}
 use Rattle.print.proofs.put_word.Tie as tie
 

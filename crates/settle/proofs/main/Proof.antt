@@ -3,7 +3,7 @@ use borrow.Author.Needs.{needs}
 use mathlib.Core.Path.{_≡_, sym}
 use Prim.Native.Nat.{ℕ, _≤_}
 use lib.Seq.{length-take-le}
-use Rattle.settle.specs.Inputs.{bytesRead}
+use Rattle.settle.specs.Inner.Inputs.{bytesRead}
 use Rattle.settle.specs.declared.Input.{Input}
 use Rattle.settle.specs.declared.Input.the-variants.{Read}
 use Rattle.settle.proofs.main.Statement.{statement}

@@ -42,8 +42,8 @@ use denote.Triple.Walked.{says, needs, Stays, stay-slice, stay-none, walkOf, All
 use denote.Exit.{yes}
 use Rattle.table.specs.declared.Range.{Range}
 use Rattle.table.specs.declared.Bounds.{Bounds}
-use Rattle.table.specs.Tables.{over, ranges}
-use Rattle.table.specs.Laws.{over-length, over-ranges}
+use Rattle.table.specs.Inner.Tables.{over, ranges}
+use Rattle.table.specs.Laws.Lists.{over-length, over-ranges}
 use Rattle.job.proofs.Closing.{proved}
 use Rattle.job.proofs.Releasing.{releases}
 use Rattle.table.proofs.Walks.{R, word, arr, none, vals, counts, typed, array-out, array-free, boundsVal, bounds-are, lows-are, highs-are, number-out, number-back}

@@ -40,9 +40,10 @@ use denote.Triple.Walked.{says, Stays, stay-none-slice, gave-slice, walkOf, AllG
 use denote.Exit.{yes}
 use Rattle.table.specs.declared.Range.{Range}
 use Rattle.table.specs.declared.ReportedBounds.{ReportedBounds}
-use Rattle.table.specs.Tables.{lowsOf, highsOf, ranges, boundsOf, afterReporting, bufferAfter}
-use Rattle.table.specs.Laws.{over-length}
-use Rattle.table.specs.Fronts.{putBack, reported-table}
+use Rattle.table.specs.Tables.{lowsOf, highsOf}
+use Rattle.table.specs.Inner.Tables.{ranges, boundsOf, afterReporting, bufferAfter}
+use Rattle.table.specs.Laws.Lists.{over-length}
+use Rattle.table.specs.Laws.Fronts.{putBack, reported-table}
 use Rattle.report.specs.Calls.{reported}
 use Rattle.job.proofs.Closing.{proved}
 use Rattle.job.proofs.Lending.{sliceAt}

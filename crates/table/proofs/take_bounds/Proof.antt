@@ -49,8 +49,9 @@ use denote.Triple.Walked.{says, Stays, stay-none-slice, walkOf, AllGo, goes-none
 use denote.Exit.{yes}
 use Rattle.table.specs.declared.Range.{Range}
 use Rattle.table.specs.declared.Bounds.{Bounds}
-use Rattle.table.specs.Tables.{over, lowsOf, highsOf, zeros}
-use Rattle.table.specs.Laws.{over-length, over-map, zeros-are, zeros-length}
+use Rattle.table.specs.Inner.Tables.{over, zeros}
+use Rattle.table.specs.Tables.{lowsOf, highsOf}
+use Rattle.table.specs.Laws.Lists.{over-length, over-map, zeros-are, zeros-length}
 use Rattle.job.proofs.Closing.{proved}
 use Rattle.job.proofs.Releasing.{releases}
 use Rattle.table.proofs.Walks.{R, word, arr, none, vals, counts, typed, zeroes, array-out, array-in, boundsVal, bounds-are, number-out, number-put}

@@ -11,8 +11,8 @@ use lib.Seq.{drop-cons}
 use types.Run.{OneOf}
 use denote.Enum.Declared.{tagOf}
 use Rattle.text.specs.Numbers.{isDigit}
-use Rattle.text.specs.Printed.{digit-byte}
-use Rattle.text.specs.Spots.{firstDigit}
+use Rattle.text.specs.Laws.Printed.{digit-byte}
+use Rattle.text.specs.Inner.Spots.{firstDigit}
 use Rattle.text.specs.declared.Kind.{Kind}
 use Rattle.text.specs.declared.Kind.the-variants.{Opening, Closing, Space, Digit, Letter, Foreign}
 use Rattle.text.proofs.Kind.{the-type}

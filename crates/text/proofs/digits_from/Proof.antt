@@ -4,8 +4,9 @@ use mathlib.Core.List.{List, []}
 use mathlib.Core.Path.{_≡_, refl, sym, _∙_}
 use lib.ListN.{length, drop, drop-of-length-le}
 use lib.Seq.{drop-drop}
-use Rattle.text.specs.Numbers.{held, most}
-use Rattle.text.specs.Spots.{firstDigit, digitsHeld, digit-less, digit-on, digit-none, digit-end}
+use Rattle.text.specs.Inner.Numbers.{held, most}
+use Rattle.text.specs.Inner.Spots.{firstDigit, digitsHeld}
+use Rattle.text.specs.Laws.Spots.{digit-less, digit-on, digit-none, digit-end}
 use Rattle.text.specs.declared.Found.the-variants.{Is, Nothing}
 use borrow.Author.Needs.{needs}
 use native.Mathlib.Omega.{arith}

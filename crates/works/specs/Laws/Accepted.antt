@@ -9,13 +9,14 @@ use native.Mathlib.Omega.{arith}
 use borrow.Author.Tests.{eq-eqb, not-true}
 use lib.Dec.{eqb}
 use lib.ListN.{length, getD}
-use Rattle.job.specs.Distinct.{below-at}
-use Rattle.groups.specs.Flat.{flatten, groupsIn}
+use Rattle.job.specs.Laws.Distinct.{below-at}
+use Rattle.groups.specs.Inner.Flat.{flatten, groupsIn}
 use Rattle.groups.specs.Laws.Reading.{flatten-groups, flatten-holds}
 use Rattle.job.specs.Job.{Job, holds, distinct, accepted, readJob}
-use Rattle.job.specs.Reading.{Scanned, accepted-by, refused-by}
+use Rattle.job.specs.Inner.Reading.{Scanned}
+use Rattle.job.specs.Laws.Reading.{accepted-by, refused-by}
 use Rattle.job.specs.Sound as job
-use Rattle.job.specs.Sound.{accepted-sound}
+use Rattle.job.specs.Laws.Sound.{accepted-sound}
 use Rattle.job.specs.declared.Reading.{Reading}
 use Rattle.job.specs.declared.Reading.the-variants.{Read, Refused}
 use Rattle.model.specs.Groups.{Group}
@@ -23,7 +24,7 @@ use Rattle.model.specs.Laws.Tests.{both-left, both-right, clash, either-right}
 use Rattle.model.specs.declared.Refusal.{Refusal}
 use Rattle.works.specs.Calls.{settlement, settleJob, settleText}
 use Rattle.works.specs.Consistency.{SoundGroup, Sound}
-use Rattle.works.specs.Ready.{Prepared}
+use Rattle.works.specs.Inner.Ready.{Prepared}
 use Rattle.works.specs.Tables.{Table, Valid, units}
 use Rattle.works.specs.declared.Settling.the-variants as works
 

@@ -9,7 +9,8 @@ use lib.Dec.{leb}
 use lib.ListN.{length, take, drop}
 use lib.Seq.{length-take-le}
 use Rattle.group.specs.Checks.{checkLists}
-use Rattle.group.specs.Findings.{Finding, SizedLists, check-exactly, passed-sound, refuse-passed}
+use Rattle.group.specs.Findings.{Finding, SizedLists}
+use Rattle.group.specs.Laws.Findings.{check-exactly, passed-sound, refuse-passed}
 use Rattle.group.specs.Sound as one
 use Rattle.group.specs.declared.Check.the-variants.{Passed, Failed}
 use Rattle.model.specs.Laws.Tests.{both, both-left, both-right}
@@ -17,8 +18,8 @@ use Rattle.model.specs.Shares.{Ranges}
 use Rattle.model.specs.declared.Refusal.{Refusal}
 use Rattle.works.specs.Answers.{answerOf, tableAfter}
 use Rattle.works.specs.Calls.{settlement, hasRoom, checkTable, settleJob}
-use Rattle.groups.specs.Flat.{groupsIn}
-use Rattle.works.specs.Ready.{Opening, Prepared}
+use Rattle.groups.specs.Inner.Flat.{groupsIn}
+use Rattle.works.specs.Inner.Ready.{Opening, Prepared}
 use Rattle.works.specs.Settling.{settle}
 use Rattle.works.specs.Tables.{tableOf}
 use Rattle.works.specs.declared.Settling.{Settling}

@@ -9,13 +9,8 @@ use Rattle.works.specs.Consistency.{Sound, Consistent, NoneInside}
 use Rattle.works.specs.Settling.{Passed, Outcome, pass, settleFrom, settle}
 use Rattle.works.specs.Tables.{Table, sameTable, width, Inside}
 use Rattle.works.specs.Laws.Inside.{inside-refl, inside-trans, same-table, changed, widths-same}
-use Rattle.works.specs.Laws.Passes.{After, sound-inside, pass-after, pass-keeps, pass-quiet}
-
--- the greatest consistent table inside a table
-pub record Greatest (groups : List Group) (table final : Table) : Type 0 where
-  pub after : After groups final table
-  pub consistent : Consistent groups final
-  pub holds : (inner : Table) → Consistent groups inner → Inside inner table → Inside inner final
+use Rattle.works.specs.Endings.{After, Greatest}
+use Rattle.works.specs.Laws.Passes.{sound-inside, pass-after, pass-keeps, pass-quiet}
 
 -- an outcome of settling that is right, after at most so many passes
 pub data Right (groups : List Group) (table : Table) (most : ℕ) : Outcome → Type 0 where

@@ -5,11 +5,12 @@ use mathlib.Core.Logic.{⊎-elim}
 use mathlib.Core.Path.{_≡_, refl}
 use native.Mathlib.Omega.{arith}
 use Rattle.model.specs.Groups.{Group}
-use Rattle.works.specs.Consistency.{Sound, Apart, Supported, Consistent}
+use Rattle.works.specs.Consistency.{Sound, Supported, Consistent}
 use Rattle.works.specs.Settling.{Revised, Passed, narrowed, revise, passFrom}
-use Rattle.works.specs.Tables.{Table, Valid, lowOf, highOf, Inside}
+use Rattle.works.specs.Tables.{Table, Valid, Inside}
 use Rattle.works.specs.Laws.Inside.{inside-refl, inside-trans, inside-both}
 use Rattle.works.specs.Laws.Turns.{turn-inside, turn-valid, turn-other, turn-keeps, turn-quiet}
+use Rattle.works.specs.Endings.{After}
 
 -- the groups are sound over each table of ranges inside
 pub sound-inside : {groups : List Group} {next table : Table} → Sound groups table → Valid next → Inside next table
@@ -31,13 +32,6 @@ sound-turn {group} {table} sound turn =
     sound-inside (sound-rest sound)
     (turn-valid table group (sound .valid) (sound .each group first) turn)
     (turn-inside table group (sound .valid) (sound .each group first) turn)
-
--- what passes leave of a table: a table of ranges inside it, with the same range at each unit in no group
-pub record After (groups : List Group) (next table : Table) : Type 0 where
-  pub inside : Inside next table
-  pub valid : Valid next
-  pub untouched : (unit : ℕ) → Apart groups unit
-      → (lowOf next unit ≡ lowOf table unit) × (highOf next unit ≡ highOf table unit)
 
 -- a pass over some groups that is not stopped is the first group's turn and a pass over the others
 step : (place : ℕ) (group : Group) (groups : List Group) (table next : Table) → passFrom place (group ∷ groups) table ≡ Passed.passed next

@@ -2,7 +2,7 @@
 use Prim.Native.Nat.{ℕ, zero, suc, _+_, _≤_, _<_}
 use mathlib.Core.Bool.{Bool, true, false}
 use mathlib.Core.List.{List, [], _∷_}
-use mathlib.Core.Logic.{_⊎_, inl, inr}
+use mathlib.Core.Logic.{inl, inr}
 use mathlib.Core.Path.{_≡_, refl}
 use native.Mathlib.Omega.{arith}
 use lib.ListN.{length}
@@ -12,10 +12,7 @@ use Rattle.model.specs.Shares.{pick}
 use Rattle.model.specs.declared.Turn.the-variants.{Narrowed, NoPlan}
 use Rattle.works.specs.Settling.{Revised, Passed, Outcome, revisedBy, narrowed, revise, passFrom, pass, settleFrom, settle}
 use Rattle.works.specs.Tables.{Table, sameTable, width, lowsOf, highsOf}
-
--- 01: refused for want of a plan
-abbrev pub WantOfPlan : ℕ → Type 0
-WantOfPlan number = (number ≡ 11) ⊎ (number ≡ 12)
+use Rattle.works.specs.Calls.{WantOfPlan}
 
 -- a turn says 11 or 12
 turn-number : (table : Table) (group : Group) (number : ℕ) → revise table group ≡ Revised.noPlan number → WantOfPlan number

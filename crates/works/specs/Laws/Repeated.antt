@@ -6,13 +6,14 @@ use mathlib.Core.Option.{none, some}
 use mathlib.Core.Path.{_≡_, sym, ap, _∙_}
 use native.Mathlib.Omega.{arith}
 use lib.ListN.{take-append-drop}
-use Rattle.job.specs.Sound.{accepted-sound}
+use Rattle.job.specs.Laws.Sound.{accepted-sound}
 use Rattle.model.specs.Groups.{Group}
 use Rattle.works.specs.Calls.{Settlement, settlement, settleText}
 use Rattle.works.specs.Settling.{settledTable, settle}
 use Rattle.works.specs.Tables.{Table}
 use Rattle.works.specs.declared.Settling.the-variants.{Settled}
-use Rattle.works.specs.Laws.Called.{Cleared, Ends, groups, count, opening, called, after, opening-sound, called-is, ends, called-settled, called-consistent, called-lengths, says, WithoutPlan, settled-not}
+use Rattle.works.specs.Called.{Cleared, groups, count, opening, called, after, WithoutPlan}
+use Rattle.works.specs.Laws.Called.{Ends, opening-sound, called-is, ends, called-settled, called-consistent, called-lengths, says, settled-not}
 use Rattle.works.specs.Laws.Checked.{passed-room, ranges-pass}
 use Rattle.works.specs.Laws.Settled.{settled-again, any-order}
 

@@ -10,7 +10,8 @@ use lib.ListN.{drop}
 use Rattle.model.specs.Shares.{greatestTotal}
 use Rattle.model.specs.Laws.Tests.{refuted}
 use Rattle.group.specs.Sound as one
-use Rattle.groups.specs.Flat.{groupsIn, storedAt, groupIn}
+use Rattle.group.specs.Laws.Sound as laws
+use Rattle.groups.specs.Inner.Flat.{groupsIn, storedAt, groupIn}
 use Rattle.groups.specs.Laws.Walk.{Walk, Next, walk-start, walk-end, walk-next}
 use Rattle.groups.specs.declared.Stored.{Stored}
 use Rattle.model.specs.Groups.{Group}
@@ -18,11 +19,12 @@ use Rattle.model.specs.Known.{refusedBy}
 use Rattle.model.specs.declared.Turn.{Turn}
 use Rattle.model.specs.declared.Turn.the-variants.{Narrowed, NoPlan}
 use Rattle.works.specs.Consistency.{Sound}
-use Rattle.works.specs.Ready.{Turning, Opening}
+use Rattle.works.specs.Inner.Ready.{Turning, Opening}
 use Rattle.works.specs.Settling.{Revised, Passed, Outcome, revisedBy, revise, passFrom, pass, settleFrom, settle}
 use Rattle.works.specs.Tables.{Table, sameTable, units, width}
 use Rattle.works.specs.Laws.Inside.{same-table, table-same, widths-sums, widths-same}
-use Rattle.works.specs.Laws.Passes.{After, first, sound-inside, sound-turn, pass-after}
+use Rattle.works.specs.Endings.{After}
+use Rattle.works.specs.Laws.Passes.{first, sound-inside, sound-turn, pass-after}
 use Rattle.works.specs.Laws.Turns.{turn-inside}
 
 module _ (flat : List ℕ) (count : ℕ) where
@@ -38,11 +40,11 @@ module _ (flat : List ℕ) (count : ℕ) where
 
   -- the table's ranges are those of one group
   pub opening-sound : {table : Table} → Opening flat count table → one.Sound (table .lows) (table .highs)
-  opening-sound opening = one.sound (opening .sound .valid) (opening .few)
+  opening-sound opening = laws.sound (opening .sound .valid) (opening .few)
 
   -- their widths add up to at most a total
   pub width-small : {table : Table} → Opening flat count table → width table ≤ greatestTotal
-  width-small opening = omega (arith, widths-sums (opening .sound .valid), one.highs-small (opening-sound opening))
+  width-small opening = omega (arith, widths-sums (opening .sound .valid), laws.highs-small (opening-sound opening))
 
   -- a pass starts
   pub passing-start : {table : Table} → Opening flat count table → Passing table table 0 0
@@ -56,7 +58,7 @@ module _ (flat : List ℕ) (count : ℕ) where
   -- the table's ranges stay those of one group
   pub passing-sound : {start table : Table} {at place : ℕ} → Passing start table at place → units start ≤ one.greatestCount
       → one.Sound (table .lows) (table .highs)
-  passing-sound passing few = one.sound (passing .sound .valid) (omega (arith, passing .sameUnits))
+  passing-sound passing few = laws.sound (passing .sound .valid) (omega (arith, passing .sameUnits))
 
   -- a group's turn comes
   module _ {start table : Table} {at place : ℕ} (passing : Passing start table at place) (some : place < count)

@@ -9,7 +9,8 @@ use Rattle.model.specs.Groups.{Group}
 use Rattle.works.specs.Consistency.{Sound, Apart, Consistent, NoneInside}
 use Rattle.works.specs.Settling.{Outcome, Passed, pass, passesOf, settledTable, settleFrom, settle}
 use Rattle.works.specs.Tables.{Table, lowOf, highOf, width, Inside}
-use Rattle.works.specs.Laws.Ends.{Greatest, Right, settle-right}
+use Rattle.works.specs.Endings.{Greatest}
+use Rattle.works.specs.Laws.Ends.{Right, settle-right}
 use Rattle.works.specs.Laws.Inside.{inside-refl, inside-both, table-same}
 use Rattle.works.specs.Laws.Passes.{sound-inside, pass-after, pass-keeps}
 

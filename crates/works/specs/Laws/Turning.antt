@@ -5,14 +5,15 @@ use mathlib.Core.Path.{_≡_, ap, _∙_}
 use native.Mathlib.Omega.{arith}
 use lib.ListN.{length, take}
 use lib.Seq.{length-take-le}
-use Rattle.group.specs.Narrowing.{afterTurn}
+use Rattle.group.specs.Inner.Narrowing.{afterTurn}
 use Rattle.group.specs.Sound as one
+use Rattle.group.specs.Laws.Sound as laws
 use Rattle.model.specs.Groups.{Group}
 use Rattle.model.specs.Laws.Lists.{ranges-length}
 use Rattle.model.specs.Plans.{turnOf, narrowedLows, narrowedHighs}
 use Rattle.model.specs.declared.Turn.{Turn}
 use Rattle.model.specs.declared.Turn.the-variants.{Narrowed, NoPlan}
-use Rattle.works.specs.Ready.{Turning, Room, Workspace}
+use Rattle.works.specs.Inner.Ready.{Turning, Room, Workspace}
 use Rattle.works.specs.Settling.{revisedBy, narrowed, revise}
 use Rattle.works.specs.Tables.{Table, Named, tableOf, units, scatter, lowsOf, highsOf, size}
 use Rattle.works.specs.Laws.Few.{size-few}
@@ -32,7 +33,7 @@ module _ {table : Table} {group : Group} (turning : Turning table group) where
   pub gathered-sound : {lows highs : List ℕ} → lows ≡ lowsOf table group → highs ≡ highsOf table group → one.Sound lows highs
   gathered-sound is-lows is-highs =
       rw (is-lows, is-highs)
-      (one.sound (gathered table group (turning .valid) (turning .sound))
+      (laws.sound (gathered table group (turning .valid) (turning .sound))
       (omega (arith, size-few (turning .sound), turning .few, gather-length (table .lows) (group .members))))
 
   -- they are at most 256

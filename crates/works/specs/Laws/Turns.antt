@@ -8,7 +8,7 @@ use native.Mathlib.Nat.{le-refl}
 use native.Mathlib.Omega.{arith}
 use lib.ListN.{length, getD}
 use Rattle.model.specs.Groups.{Group}
-use Rattle.model.specs.Laws.Keeping as keeping
+use Rattle.model.specs.Narrowing as keeping
 use Rattle.model.specs.Laws.Keeping.{plan-widen}
 use Rattle.model.specs.Laws.Lists.{ranges-length, ranges-at, ranges-of}
 use Rattle.model.specs.Laws.Narrowing as narrowing

@@ -6,7 +6,7 @@ use mathlib.Core.Path.{_≡_, sym}
 use lib.Dec.{ltb}
 use lib.ListN.{length}
 use Rattle.group.specs.Checks.{firstBeyond, sized, checkLists}
-use Rattle.group.specs.Findings.{sized-of}
+use Rattle.group.specs.Laws.Findings.{sized-of}
 use Rattle.group.proofs.checks.check_lists.Statement.{statement}
 use Rattle.group.proofs.checks.check_lists.Tie as tie
 

@@ -6,7 +6,7 @@ use mathlib.Core.Path.{refl}
 use Prim.Native.Nat.{_-_, _≤_}
 use lib.Dec.{leb}
 use lib.ListN.{length}
-use Rattle.group.specs.First.{NoneBefore, first-here, first-after, first-nowhere}
+use Rattle.group.specs.Laws.First.{NoneBefore, first-here, first-after, first-nowhere}
 use Rattle.group.proofs.checks.first_crossed.Statement.{statement}
 use Rattle.group.proofs.checks.first_crossed.Tie as tie
 

@@ -9,10 +9,11 @@ use lib.ListN.{length, getD}
 use Rattle.model.specs.Shares.{greatestShare}
 use Rattle.model.specs.Figures.{apart}
 use Rattle.model.specs.Plans.{taken}
-use Rattle.probe.specs.Probes.{Found, InReach}
-use Rattle.group.specs.Edges.{Straddle, Approach, Amid, straddle-start, straddle-in, straddle-out, halfway, amid-nearer, amid-between}
-use Rattle.group.specs.Reaching.{between-reach}
-use Rattle.group.specs.Flanks.{between-found}
+use Rattle.probe.specs.Inner.Probes.{Found, InReach}
+use Rattle.group.specs.Inner.Edges.{Straddle, Approach}
+use Rattle.group.specs.Laws.Edges.{Amid, straddle-start, straddle-in, straddle-out, halfway, amid-nearer, amid-between}
+use Rattle.group.specs.Laws.Reaching.{between-reach}
+use Rattle.group.specs.Laws.Flanks.{between-found}
 use Rattle.group.proofs.ends.edge.Statement.{statement}
 use Rattle.group.proofs.ends.edge.Tie as tie
 

@@ -1,6 +1,6 @@
 -- An edge between two values of one row is one between those outside them. Assumes nothing.
 use borrow.Author.Needs.{needs}
-use Rattle.group.specs.Edges.{edge-outward}
+use Rattle.group.specs.Laws.Edges.{edge-outward}
 use Rattle.group.proofs.ends.edge_between.Statement.{statement}
 use Rattle.group.proofs.ends.edge_between.Tie as tie
 

@@ -6,9 +6,10 @@ use mathlib.Core.Logic.{_≢_}
 use mathlib.Core.Path.{_≡_, sym, ap, _∙_}
 use Rattle.model.specs.Plans.{taken}
 use Rattle.model.specs.Laws.Tests.{clash}
-use Rattle.group.specs.Edges.{Approach, nearest-reach, nearest-edge}
-use Rattle.group.specs.Flanks.{flanks-rising, flanks-falling}
-use Rattle.group.specs.Reaching.{Moved, probes, room, moved, share-reach}
+use Rattle.group.specs.Inner.Edges.{Approach}
+use Rattle.group.specs.Laws.Edges.{nearest-reach, nearest-edge}
+use Rattle.group.specs.Laws.Flanks.{flanks-rising, flanks-falling}
+use Rattle.group.specs.Laws.Reaching.{Moved, probes, room, moved, share-reach}
 use Rattle.group.proofs.ends.farthest_taken.Statement.{statement}
 use Rattle.group.proofs.ends.farthest_taken.Tie as tie
 

@@ -12,11 +12,13 @@ use Rattle.model.specs.Figures.{apart}
 use Rattle.model.specs.Levels.{clamp}
 use Rattle.model.specs.Plans.{taken}
 use Rattle.model.specs.Laws.Lists.{ranges-at}
-use Rattle.probe.specs.Rows.{rowAt}
-use Rattle.probe.specs.Probes.{pinnedTotal, InReach}
-use Rattle.group.specs.Edges.{Straddle, Approach, Between, Amid, straddle-start, straddle-in, straddle-out, straddle-differ, halfway, amid-nearer}
-use Rattle.group.specs.Reaching.{between-reach}
-use Rattle.group.specs.Flanks.{Flanked, flanks-row, flanks-small, flanks-between, flanks-found, flanks-in, flanks-out, flanks-few, flanks-end}
+use Rattle.probe.specs.Inner.Rows.{rowAt}
+use Rattle.probe.specs.Inner.Probes.{pinnedTotal, InReach}
+use Rattle.group.specs.Inner.Edges.{Straddle, Approach}
+use Rattle.group.specs.Laws.Edges.{Between, Amid, straddle-start, straddle-in, straddle-out, straddle-differ, halfway, amid-nearer}
+use Rattle.group.specs.Laws.Reaching.{between-reach}
+use Rattle.group.specs.Inner.Flanks.{Flanked}
+use Rattle.group.specs.Laws.Flanks.{flanks-row, flanks-small, flanks-between, flanks-found, flanks-in, flanks-out, flanks-few, flanks-end}
 use Rattle.group.proofs.ends.to_one_row.Statement.{statement}
 use Rattle.group.proofs.ends.to_one_row.Tie as tie
 

@@ -13,7 +13,7 @@ use Rattle.model.specs.Figures.{apart, deviation, spread}
 use Rattle.model.specs.Levels.{topped}
 use Rattle.model.specs.Laws.Walk.{Passed, passed-step, passed-all}
 use Rattle.model.specs.Laws.Lists.{ranges-at, within-length}
-use Rattle.group.specs.Bounds.{share-at-small, sum-small, squares-small, deviation-small}
+use Rattle.group.specs.Laws.Bounds.{share-at-small, sum-small, squares-small, deviation-small}
 use Rattle.group.proofs.plans.figures_at.Statement.{statement}
 use Rattle.group.proofs.plans.figures_at.Tie as tie
 

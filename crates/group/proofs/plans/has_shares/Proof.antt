@@ -1,6 +1,6 @@
 -- The sums of the lows and of the highs decide. Assumes nothing.
 use borrow.Author.Tests.{lt-leb, le-leb}
-use Rattle.group.specs.Sound.{lows-small, highs-small}
+use Rattle.group.specs.Laws.Sound.{lows-small, highs-small}
 use Rattle.group.proofs.plans.has_shares.Statement.{statement}
 use Rattle.group.proofs.plans.has_shares.Tie as tie
 

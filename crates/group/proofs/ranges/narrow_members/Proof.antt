@@ -10,10 +10,10 @@ use Rattle.model.specs.Plans.{narrowedLow, narrowedHigh, narrowedLows, narrowed
 use Rattle.model.specs.Laws.Lists.{ranges-at}
 use Rattle.model.specs.Laws.Narrowing.{narrowedLows-length, narrowedHighs-length, narrowedLows-at, narrowedHighs-at}
 use Rattle.model.specs.Laws.Walk.{Ahead, ahead-share, ahead-step}
-use Rattle.group.specs.Bounds.{share-at-small}
-use Rattle.group.specs.Tabled.{Filled, filled-none, filled-next, filled-all}
-use Rattle.group.specs.Edges.{Planned}
-use Rattle.group.specs.Ends.{levelled-planned, to-low, to-high, low-reached, high-reached}
+use Rattle.group.specs.Laws.Bounds.{share-at-small}
+use Rattle.group.specs.Laws.Tabled.{Filled, filled-none, filled-next, filled-all}
+use Rattle.group.specs.Laws.Edges.{Planned}
+use Rattle.group.specs.Laws.Ends.{levelled-planned, to-low, to-high, low-reached, high-reached}
 use Rattle.group.proofs.ranges.narrow_members.Statement.{statement}
 use Rattle.group.proofs.ranges.narrow_members.Tie as tie
 

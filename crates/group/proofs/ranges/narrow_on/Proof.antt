@@ -9,10 +9,10 @@ use lib.ListN.{length}
 use Rattle.model.specs.Plans.{hasShares, turnOf}
 use Rattle.model.specs.Laws.Narrowing.{narrowedLows-length, narrowedHighs-length}
 use Rattle.model.specs.Laws.Turns.{found-turn}
-use Rattle.probe.specs.Probes.{InReach}
-use Rattle.probe.specs.Reaching.{shares-reach}
-use Rattle.group.specs.Sound.{shares-had}
-use Rattle.group.specs.Tabled.{HasPlan}
+use Rattle.probe.specs.Inner.Probes.{InReach}
+use Rattle.probe.specs.Laws.Reaching.{shares-reach}
+use Rattle.group.specs.Laws.Sound.{shares-had}
+use Rattle.group.specs.Inner.Tabled.{HasPlan}
 use Rattle.group.proofs.ranges.narrow_on.Statement.{statement}
 use Rattle.group.proofs.ranges.narrow_on.Tie as tie
 

@@ -5,8 +5,10 @@ use native.Mathlib.Omega.{arith}
 use mathlib.Core.Bool.{true}
 use mathlib.Core.Path.{_≡_, refl, sym, _∙_}
 use Rattle.model.specs.Plans.{hasShares, turnOf}
-use Rattle.group.specs.Sound.{HasShares, has-shares}
-use Rattle.group.specs.Tabled.{Tabled, probe-sound}
+use Rattle.group.specs.Sound.{HasShares}
+use Rattle.group.specs.Laws.Sound.{has-shares}
+use Rattle.group.specs.Inner.Tabled.{Tabled}
+use Rattle.group.specs.Laws.Tabled.{probe-sound}
 use Rattle.group.proofs.ranges.narrow_with.Statement.{statement}
 use Rattle.group.proofs.ranges.narrow_with.Tie as tie
 

@@ -3,12 +3,15 @@ use Prim.Native.Nat.{ℕ}
 use mathlib.Core.List.{List}
 use lib.ListN.{length, drop}
 use mathlib.Core.Path.{sym}
-use Rattle.text.specs.Parsed.{andThen, mapped, mapped-parsed}
-use Rattle.text.specs.Spots.{stepped, told}
+use Rattle.text.specs.Parsed.{andThen, mapped}
+use Rattle.text.specs.Laws.Parsed.{mapped-parsed}
+use Rattle.text.specs.Inner.Spots.{stepped}
+use Rattle.text.specs.Laws.Spots.{told}
 use Rattle.job.specs.Form.{membersAs, groupAs}
-use Rattle.text.specs.Numbers.{held}
-use Rattle.job.specs.Seen.{headSeen}
-use Rattle.job.specs.Tally.{tallied, grouped-none, grouped-some}
+use Rattle.text.specs.Inner.Numbers.{held}
+use Rattle.job.specs.Inner.Seen.{headSeen}
+use Rattle.job.specs.Inner.Tally.{tallied}
+use Rattle.job.specs.Laws.Tally.{grouped-none, grouped-some}
 use borrow.Author.Needs.{needs}
 use Rattle.job.proofs.lines.group_line.Statement.{statement}
 use Rattle.job.proofs.lines.group_line.Tie as tie

@@ -1,9 +1,10 @@
 -- Item by item, each read where the one before ended. Assumes nothing.
 use borrow.Author.Needs.{needs}
 use Rattle.text.specs.Parsed.{andThen, mapped}
-use Rattle.text.specs.Spots.{stepped, counted, told}
+use Rattle.text.specs.Inner.Spots.{stepped, counted}
+use Rattle.text.specs.Laws.Spots.{told}
 use Rattle.job.specs.Form.{numberAs, headAs}
-use Rattle.job.specs.Seen.{limitSeen}
+use Rattle.job.specs.Inner.Seen.{limitSeen}
 use Rattle.job.proofs.lines.head_line.Statement.{statement}
 use Rattle.job.proofs.lines.head_line.Tie as tie
 

@@ -2,7 +2,8 @@
 use borrow.Author.Needs.{needs}
 use Rattle.text.specs.Parsed.{andThen, mapped, orElse, word}
 use Rattle.text.specs.Numbers.{numberAfter}
-use Rattle.text.specs.Spots.{stepped, counted, told}
+use Rattle.text.specs.Inner.Spots.{stepped, counted}
+use Rattle.text.specs.Laws.Spots.{told}
 use Rattle.job.specs.Form.{numberAs, limitAs}
 use Rattle.job.proofs.lines.limit_after.Statement.{statement}
 use Rattle.job.proofs.lines.limit_after.Tie as tie

@@ -5,10 +5,12 @@ use mathlib.Core.List.{List}
 use mathlib.Core.Path.{_≡_, refl, sym, _∙_}
 use lib.ListN.{length, drop, length-drop}
 use Rattle.text.specs.Parsed.{failed}
-use Rattle.text.specs.Numbers.{held}
-use Rattle.text.specs.Spots.{counted, told}
+use Rattle.text.specs.Inner.Numbers.{held}
+use Rattle.text.specs.Inner.Spots.{counted}
+use Rattle.text.specs.Laws.Spots.{told}
 use Rattle.job.specs.Form.{space, numberAs}
-use Rattle.job.specs.Tally.{Tally, collect, collect-tallied, collect-none, collect-next}
+use Rattle.job.specs.Inner.Tally.{Tally}
+use Rattle.job.specs.Laws.Tally.{collect, collect-tallied, collect-none, collect-next}
 use native.Mathlib.Omega.{arith}
 use borrow.Author.Needs.{needs}
 use Rattle.job.proofs.lines.read_members.Statement.{statement}

@@ -1,7 +1,8 @@
 -- Item by item, each read where the one before ended. Assumes nothing.
 use borrow.Author.Needs.{needs}
 use Rattle.text.specs.Parsed.{andThen, mapped}
-use Rattle.text.specs.Spots.{stepped, counted, told}
+use Rattle.text.specs.Inner.Spots.{stepped, counted}
+use Rattle.text.specs.Laws.Spots.{told}
 use Rattle.job.specs.Form.{numberAs, unitAs}
 use Rattle.job.proofs.lines.unit_line.Statement.{statement}
 use Rattle.job.proofs.lines.unit_line.Tie as tie

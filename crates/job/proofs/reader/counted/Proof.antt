@@ -1,7 +1,7 @@
 -- No unit line is 10, and else the counts are the answer. Assumes nothing.
 use borrow.Author.Needs.{needs}
 use borrow.Author.Tests.{eq-eqb, ne-eqb}
-use Rattle.job.specs.Reading.{countsOf}
+use Rattle.job.specs.Inner.Reading.{countsOf}
 use Rattle.job.proofs.reader.counted.Statement.{statement}
 use Rattle.job.proofs.reader.counted.Tie as tie
 

@@ -34,9 +34,9 @@ use denote.Triple.Statement.{Triple}
 use denote.Triple.Table.{cited}
 use denote.Triple.Walked.{needs, AllGo, goes-none-slice, goes-slice, Walks, walked}
 use denote.Exit.{yes}
-use Rattle.groups.specs.Flat.{mostFlat}
+use Rattle.groups.specs.Inner.Flat.{mostFlat}
 use Rattle.job.specs.Job.{mostBytes, mostUnits}
-use Rattle.job.specs.Scanning.{start}
+use Rattle.job.specs.Laws.Scanning.{start}
 use Rattle.job.specs.declared.steps.Progress.{Progress}
 use Rattle.job.proofs.Closing.{proved}
 use Rattle.job.proofs.reader.scan_lines.Proof.Calls.{sliceOf, New, End, Line, Moved, Counted, makes}

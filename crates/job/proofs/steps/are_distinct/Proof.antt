@@ -1,6 +1,6 @@
 -- At first no number is marked. Assumes nothing.
 use mathlib.Core.Path.{_∙_}
-use Rattle.job.specs.Distinct.{fresh-is-distinct}
+use Rattle.job.specs.Laws.Distinct.{fresh-is-distinct}
 use borrow.Author.Needs.{needs}
 use Rattle.job.proofs.steps.are_distinct.Statement.{statement}
 use Rattle.job.proofs.steps.are_distinct.Tie as tie

@@ -4,7 +4,8 @@ use mathlib.Core.List.{List, []}
 use mathlib.Core.Path.{_≡_, refl, sym, _∙_}
 use borrow.Author.Tests.{eq-eqb, ne-eqb}
 use lib.ListN.{length, getD, drop, length-set, drop-of-length-le}
-use Rattle.job.specs.Distinct.{freshBy, below-at, fresh-next, fresh-end}
+use Rattle.job.specs.Inner.Distinct.{freshBy}
+use Rattle.job.specs.Laws.Distinct.{below-at, fresh-next, fresh-end}
 use native.Mathlib.Omega.{arith}
 use borrow.Author.Needs.{needs}
 use Rattle.job.proofs.steps.fresh_by.Statement.{statement}

@@ -6,17 +6,19 @@ use lib.ListN.{length, drop, take, length-map}
 use lib.Seq.{sets}
 use borrow.Author.Tests.{not-true, not-false}
 use Rattle.model.specs.Figures.{greatestDeviation, greatestSpread}
-use Rattle.text.specs.Parsed.{mapped, mapped-failed}
-use Rattle.text.specs.Spots.{told}
+use Rattle.text.specs.Parsed.{mapped}
+use Rattle.text.specs.Laws.Parsed.{mapped-failed}
+use Rattle.text.specs.Laws.Spots.{told}
 use Rattle.job.specs.Form.{group, groupAs}
-use Rattle.text.specs.Numbers.{held}
-use Rattle.groups.specs.Flat.{mostFlat, flatLength}
+use Rattle.text.specs.Inner.Numbers.{held}
+use Rattle.groups.specs.Inner.Flat.{mostFlat, flatLength}
 use Rattle.job.specs.Job.{add, stepOn, headVerdict, distinct, memberOf, mostMemberships}
-use Rattle.job.specs.Seen.{groupSeen}
-use Rattle.job.specs.Tally.{groupTally, GroupFacts, group-facts}
-use Rattle.job.specs.Verdicts.{head-good, limit-coded}
-use Rattle.job.specs.Distinct.{distinct-members, members-below}
-use Rattle.job.specs.Taking.{numbersOf, not-in-form, head-refused, number-refused, twice-refused, group-next, group-holds, headNumbers, heads-alike, part-of-sets}
+use Rattle.job.specs.Inner.Seen.{groupSeen}
+use Rattle.job.specs.Inner.Tally.{groupTally}
+use Rattle.job.specs.Laws.Tally.{GroupFacts, group-facts}
+use Rattle.job.specs.Laws.Verdicts.{head-good, limit-coded}
+use Rattle.job.specs.Laws.Distinct.{distinct-members, members-below}
+use Rattle.job.specs.Laws.Taking.{numbersOf, not-in-form, head-refused, number-refused, twice-refused, group-next, group-holds, headNumbers, heads-alike, part-of-sets}
 use native.Mathlib.Omega.{arith}
 use borrow.Author.Needs.{needs}
 use Rattle.job.proofs.steps.take_group.Statement.{statement}

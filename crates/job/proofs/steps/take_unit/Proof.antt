@@ -2,8 +2,8 @@
 use mathlib.Core.Path.{sym, _∙_}
 use Rattle.job.specs.Job.{add}
 use Rattle.job.specs.Form.{UnitLine, unit}
-use Rattle.job.specs.Verdicts.{unit-good}
-use Rattle.job.specs.Taking.{unit-refused, unit-next, unit-holds}
+use Rattle.job.specs.Laws.Verdicts.{unit-good}
+use Rattle.job.specs.Laws.Taking.{unit-refused, unit-next, unit-holds}
 use native.Mathlib.Omega.{arith}
 use borrow.Author.Needs.{needs}
 use Rattle.job.proofs.steps.take_unit.Statement.{statement}

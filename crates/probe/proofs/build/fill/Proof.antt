@@ -5,7 +5,7 @@ use mathlib.Core.Path.{_≡_, refl, _∙_}
 use native.Mathlib.Numerals.{add-one}
 use Prim.Native.Nat.{_-_, _*_}
 use lib.ListN.{length}
-use Rattle.probe.specs.Fills.{Filled, filled-first, filled-next, filled-all}
+use Rattle.probe.specs.Laws.Fills.{Filled, filled-first, filled-next, filled-all}
 use Rattle.probe.proofs.build.fill.Statement.{statement}
 use Rattle.probe.proofs.build.fill.Tie as tie
 

@@ -1,8 +1,8 @@
 -- Each part of the deviation is small, and moves with the level. Assumes nothing.
 use borrow.Author.Needs.{needs}
 use native.Mathlib.Numerals.{add-one}
-use Rattle.probe.specs.Tables.{small-mean}
-use Rattle.probe.specs.Figures.{parts}
+use Rattle.probe.specs.Laws.Tables.{small-mean}
+use Rattle.probe.specs.Laws.Figures.{parts}
 use Rattle.probe.proofs.figures.pinned_deviation.Statement.{statement}
 use Rattle.probe.proofs.figures.pinned_deviation.Tie as tie
 

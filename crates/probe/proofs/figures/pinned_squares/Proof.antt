@@ -1,8 +1,8 @@
 -- Each square is small, and moves with the level. Assumes nothing.
 use borrow.Author.Needs.{needs}
 use native.Mathlib.Numerals.{add-one}
-use Rattle.probe.specs.Tables.{small-square}
-use Rattle.probe.specs.Figures.{parts}
+use Rattle.probe.specs.Laws.Tables.{small-square}
+use Rattle.probe.specs.Laws.Figures.{parts}
 use Rattle.probe.proofs.figures.pinned_squares.Statement.{statement}
 use Rattle.probe.proofs.figures.pinned_squares.Tie as tie
 

@@ -1,6 +1,6 @@
 -- T with the value in place of the member's own part. Assumes nothing.
 use borrow.Author.Needs.{needs}
-use Rattle.probe.specs.Probes.{pinnedTotal}
+use Rattle.probe.specs.Inner.Probes.{pinnedTotal}
 use Rattle.probe.proofs.pins.pinned_total.Statement.{statement}
 use Rattle.probe.proofs.pins.pinned_total.Tie as tie
 

@@ -1,7 +1,7 @@
 -- The others have their total at the row, and the member what is left. Assumes nothing.
 use borrow.Author.Needs.{needs}
 use native.Mathlib.Omega.{arith}
-use Rattle.probe.specs.Probes.{pinnedTotal}
+use Rattle.probe.specs.Inner.Probes.{pinnedTotal}
 use Rattle.probe.proofs.pins.value_at.Statement.{statement}
 use Rattle.probe.proofs.pins.value_at.Tie as tie
 

@@ -9,12 +9,16 @@ use Rattle.model.specs.Shares.{sumOf}
 use Rattle.model.specs.Levels.{clamp, clamped, topped}
 use Rattle.probe.specs.declared.rows.Row.{Row}
 use Rattle.probe.specs.declared.pins.Reach.{Reach}
-use Rattle.probe.specs.Rows.{rowAt}
-use Rattle.probe.specs.Tables.{Sound, Sums, Table, Small, fromMean, square, small-mean, small-square}
-use Rattle.probe.specs.Pins.{Pin, Reached}
-use Rattle.probe.specs.Probes.{pinnedTotal, Found, Divided, pinnable, growing, reached, divided-few}
-use Rattle.probe.specs.Figures.{Summable, summable, moves-sum}
-use Rattle.probe.specs.Verdicts.{Asked, pinned-figures, squares-enough, squares-small}
+use Rattle.probe.specs.Inner.Rows.{rowAt}
+use Rattle.probe.specs.Inner.Tables.{Sound, Sums, Table, fromMean, square}
+use Rattle.probe.specs.Laws.Tables.{Small, small-mean, small-square}
+use Rattle.probe.specs.Inner.Pins.{Pin, Reached}
+use Rattle.probe.specs.Inner.Probes.{pinnedTotal, Found, Divided}
+use Rattle.probe.specs.Laws.Probes.{pinnable, growing, reached, divided-few}
+use Rattle.probe.specs.Inner.Figures.{Summable}
+use Rattle.probe.specs.Laws.Figures.{summable, moves-sum}
+use Rattle.probe.specs.Inner.Verdicts.{Asked}
+use Rattle.probe.specs.Laws.Verdicts.{pinned-figures, squares-enough, squares-small}
 use Rattle.probe.proofs.probing.pinned_figures.Statement.{statement}
 use Rattle.probe.proofs.probing.pinned_figures.Tie as tie
 

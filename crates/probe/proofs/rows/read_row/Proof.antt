@@ -1,6 +1,6 @@
 -- The six numbers from the row's place on are the row. Assumes nothing.
 use borrow.Author.Needs.{needs}
-use Rattle.probe.specs.Rows.{rowAt}
+use Rattle.probe.specs.Inner.Rows.{rowAt}
 use Rattle.probe.proofs.rows.read_row.Statement.{statement}
 use Rattle.probe.proofs.rows.read_row.Tie as tie
 

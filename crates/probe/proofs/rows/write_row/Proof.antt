@@ -4,7 +4,7 @@ use native.Mathlib.Omega.{arith}
 use Prim.Native.Nat.{ℕ, suc, _+_, _*_}
 use mathlib.Core.Path.{_≡_}
 use lib.ListN.{length-set}
-use Rattle.probe.specs.Rows.{written}
+use Rattle.probe.specs.Laws.Rows.{written}
 use Rattle.probe.proofs.rows.write_row.Statement.{statement}
 use Rattle.probe.proofs.rows.write_row.Tie as tie
 

@@ -7,8 +7,9 @@ use Prim.Native.Nat.{ℕ, _+_, _-_, _*_, _≤_}
 use lib.ListN.{length, getD}
 use Rattle.model.specs.Shares.{greatestShare, sumOf}
 use Rattle.model.specs.Laws.Lists.{ranges-at}
-use Rattle.probe.specs.Sums.{Added, added-none, added-one, added-all, clamped-least}
-use Rattle.probe.specs.Tables.{Small, greatestPart, itself, fromMean, square, small-itself, small-mean, small-square, clamped-small}
+use Rattle.probe.specs.Laws.Sums.{Added, added-none, added-one, added-all, clamped-least}
+use Rattle.probe.specs.Laws.Tables.{Small, small-itself, small-mean, small-square, clamped-small}
+use Rattle.probe.specs.Inner.Tables.{greatestPart, itself, fromMean, square}
 use Rattle.probe.proofs.table.first_row.Statement.{statement}
 use Rattle.probe.proofs.table.first_row.Tie as tie
 

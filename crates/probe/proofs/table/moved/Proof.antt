@@ -1,7 +1,7 @@
 -- The products are small, and the sum is no less than what is taken away. Assumes nothing.
 use borrow.Author.Needs.{needs}
 use native.Mathlib.Omega.{arith}
-use Rattle.probe.specs.Tables.{products-small}
+use Rattle.probe.specs.Laws.Tables.{products-small}
 use Rattle.probe.proofs.table.moved.Statement.{statement}
 use Rattle.probe.proofs.table.moved.Tie as tie
 

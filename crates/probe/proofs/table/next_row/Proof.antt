@@ -1,7 +1,7 @@
 -- Whichever bound comes first, none lies before it, and one more is passed. Assumes nothing.
 use borrow.Author.Needs.{needs}
 use native.Mathlib.Omega.{arith}
-use Rattle.probe.specs.Steps.{low-span, low-share, low-stepped, high-span, high-share, high-stepped}
+use Rattle.probe.specs.Laws.Steps.{low-span, low-share, low-stepped, high-span, high-share, high-stepped}
 use Rattle.probe.proofs.table.next_row.Statement.{statement}
 use Rattle.probe.proofs.table.next_row.Tie as tie
 

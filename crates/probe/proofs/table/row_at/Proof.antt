@@ -4,7 +4,8 @@ use mathlib.Core.Path.{_≡_, refl}
 use Prim.Native.Nat.{ℕ, _+_, _*_}
 use Rattle.model.specs.Shares.{sumOf}
 use Rattle.model.specs.Levels.{clamped}
-use Rattle.probe.specs.Tables.{Movable, Small, movable, moved-sum, itself, square, small-itself, small-mean, small-square}
+use Rattle.probe.specs.Inner.Tables.{Movable, itself, square}
+use Rattle.probe.specs.Laws.Tables.{Small, movable, moved-sum, small-itself, small-mean, small-square}
 use Rattle.probe.proofs.table.row_at.Statement.{statement}
 use Rattle.probe.proofs.table.row_at.Tie as tie
 

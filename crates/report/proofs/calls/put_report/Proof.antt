@@ -8,9 +8,10 @@ use lib.ListN.{length}
 use Rattle.job.specs.Job.{mostBytes}
 use Rattle.model.specs.Groups.{Group}
 use Rattle.model.specs.Laws.Lists.{ranges-length}
-use Rattle.print.specs.Written.{Room, Rest, begin, room-next, next, done, from-start}
+use Rattle.print.specs.Inner.Written.{Room}
+use Rattle.print.specs.Laws.Written.{Rest, begin, room-next, next, done, from-start}
 use Rattle.works.specs.Tables.{Table}
-use Rattle.report.specs.Lengths.{report-fits}
+use Rattle.report.specs.Laws.Lengths.{report-fits}
 use Rattle.report.specs.Lines.{settledLine}
 use Rattle.report.specs.Ready.{Reportable}
 use Rattle.report.specs.Reports.{unitLines, groupLines, reportOf}

@@ -4,7 +4,7 @@ use mathlib.Core.Path.{_∙_}
 use native.Mathlib.Omega.{arith}
 use lib.ListN.{length}
 use Rattle.works.specs.Laws.Accepted.{read-prepared}
-use Rattle.report.specs.Texts.{buffer-short, read-limits, read-reports, refused-reports}
+use Rattle.report.specs.Laws.Texts.{buffer-short, read-limits, read-reports, refused-reports}
 use Rattle.report.proofs.calls.report_by.Statement.{statement}
 use Rattle.report.proofs.calls.report_by.Tie as tie
 

@@ -7,11 +7,11 @@ use native.Mathlib.Omega.{arith}
 use lib.ListN.{length}
 use lib.Seq.{length-take-le}
 use Rattle.works.specs.Calls.{Settlement, settlement, settleJob}
-use Rattle.groups.specs.Flat.{groupsIn}
+use Rattle.groups.specs.Inner.Flat.{groupsIn}
 use Rattle.works.specs.declared.Settling.{Settling}
 use Rattle.works.specs.declared.Settling.the-variants.{Settled}
-use Rattle.report.specs.Settled.{Settles, settles, settles-reportable}
-use Rattle.report.specs.Texts.{settled-written, settled-none, settled-refused}
+use Rattle.report.specs.Laws.Settled.{Settles, settles, settles-reportable}
+use Rattle.report.specs.Laws.Texts.{settled-written, settled-none, settled-refused}
 use Rattle.report.proofs.calls.report_job.Statement.{statement}
 use Rattle.report.proofs.calls.report_job.Tie as tie
 

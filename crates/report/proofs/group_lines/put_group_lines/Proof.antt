@@ -5,12 +5,12 @@ use mathlib.Core.Path.{_≡_, refl}
 use native.Mathlib.Omega.{arith}
 use Prim.Native.Nat.{ℕ, _-_}
 use lib.ListN.{length}
-use Rattle.groups.specs.Flat.{storedAt}
+use Rattle.groups.specs.Inner.Flat.{storedAt}
 use Rattle.groups.specs.Laws.Walk.{walk-whole}
-use Rattle.print.specs.Written.{room-next, keeps-length}
+use Rattle.print.specs.Laws.Written.{room-next, keeps-length}
 use Rattle.works.specs.Tables.{Table, tableOf}
-use Rattle.report.specs.Ready.{Workspace}
-use Rattle.report.specs.Printing.{Printing, printing-start, printing-end, coming, next-levelable, next-rest, next-printing}
+use Rattle.report.specs.Inner.Ready.{Workspace}
+use Rattle.report.specs.Laws.Printing.{Printing, printing-start, printing-end, coming, next-levelable, next-rest, next-printing}
 use Rattle.report.proofs.group_lines.put_group_lines.Statement.{statement}
 use Rattle.report.proofs.group_lines.put_group_lines.Tie as tie
 

@@ -12,7 +12,8 @@ use Rattle.model.specs.Levels.{level, levelled}
 use Rattle.model.specs.declared.Figures.{Figures}
 use Rattle.model.specs.declared.Refusal.{Refusal}
 use Rattle.model.specs.declared.Share.{Share}
-use Rattle.group.specs.Sound.{HasShares, levelled-length}
+use Rattle.group.specs.Sound.{HasShares}
+use Rattle.group.specs.Laws.Sound.{levelled-length}
 use Rattle.group.specs.Levelling.{levelledTo, planAfter}
 use Rattle.group.specs.declared.Levelling.{Levelling}
 use Rattle.group.specs.declared.Levelling.the-variants.{Levelled, Refused}

@@ -7,12 +7,12 @@ use Prim.Native.Nat.{ℕ, _+_, _-_, _≤_}
 use lib.ListN.{take, drop}
 use lib.Seq.{length-take-le}
 use Rattle.group.specs.Sound.{greatestCount}
-use Rattle.groups.specs.Flat.{groupIn}
+use Rattle.groups.specs.Inner.Flat.{groupIn}
 use Rattle.groups.specs.Laws.Reading.{size-stored}
 use Rattle.groups.specs.declared.Stored.{Stored}
 use Rattle.works.specs.Laws.Parts.{part}
 use Rattle.works.specs.Tables.{size}
-use Rattle.report.specs.Printing.{count-few, rooms}
+use Rattle.report.specs.Laws.Printing.{count-few, rooms}
 use Rattle.report.proofs.group_lines.put_stored_line.Statement.{statement}
 use Rattle.report.proofs.group_lines.put_stored_line.Tie as tie
 

@@ -6,7 +6,8 @@ use mathlib.Core.Path.{refl}
 use Rattle.model.specs.declared.Figures.{Figures}
 use Rattle.text.specs.Words.{bytes}
 use Rattle.print.specs.Items.{form}
-use Rattle.print.specs.Written.{Room, Rest, begin, room-next, next, done}
+use Rattle.print.specs.Inner.Written.{Room}
+use Rattle.print.specs.Laws.Written.{Rest, begin, room-next, next, done}
 use Rattle.report.specs.Lines.{groupLine}
 use Rattle.report.proofs.lines.put_group_line.Statement.{statement}
 use Rattle.report.proofs.lines.put_group_line.Tie as tie

@@ -7,7 +7,7 @@ use mathlib.Core.List.{List, [], _∷_, flatten}
 use mathlib.Core.Path.{_≡_, refl}
 use lib.ListN.{length, getD, drop, drop-of-length-le}
 use lib.Seq.{drop-cons}
-use Rattle.print.specs.Written.{Rest, begin, room-next, next, done, keeps-length}
+use Rattle.print.specs.Laws.Written.{Rest, begin, room-next, next, done, keeps-length}
 use Rattle.report.specs.Lines.{unitLine}
 use Rattle.report.specs.Reports.{unitLines}
 use Rattle.report.proofs.lines.put_unit_lines.Statement.{statement}

@@ -1,9 +1,10 @@
 -- The longest refusal's line fits. Assumes nothing.
 use borrow.Author.Needs.{needs}
 use native.Mathlib.Omega.{arith}
-use Rattle.print.specs.Written.{Room, from-start}
+use Rattle.print.specs.Inner.Written.{Room}
+use Rattle.print.specs.Laws.Written.{from-start}
 use Rattle.report.specs.Lines.{refusalLine}
-use Rattle.report.specs.Lengths.{refusal-length}
+use Rattle.report.specs.Laws.Lengths.{refusal-length}
 use Rattle.report.proofs.lines.refusal_line.Statement.{statement}
 use Rattle.report.proofs.lines.refusal_line.Tie as tie
 

@@ -1,7 +1,7 @@
 -- The table that is read opens the settling; a refusal's line is printed. Assumes nothing.
 use borrow.Author.Needs.{needs}
 use mathlib.Core.Path.{refl}
-use Rattle.report.specs.Printed.{refused-prints, read-opens, refusal-printed}
+use Rattle.report.specs.Laws.Printed.{refused-prints, read-opens, refusal-printed}
 use Rattle.report.proofs.program.print_by.Statement.{statement}
 use Rattle.report.proofs.program.print_by.Tie as tie
 

@@ -1,6 +1,6 @@
 -- A report that is written is what is printed; without a plan it is the refusal's line, and no check refuses. Assumes nothing.
 use borrow.Author.Needs.{needs}
-use Rattle.report.specs.Printed.{written-prints, none-prints, never-refused, refusal-printed}
+use Rattle.report.specs.Laws.Printed.{written-prints, none-prints, never-refused, refusal-printed}
 use Rattle.report.proofs.program.print_report.Statement.{statement}
 use Rattle.report.proofs.program.print_report.Tie as tie
 

@@ -5,7 +5,7 @@ use borrow.Author.Needs.{needs}
 use borrow.Author.Tests.{eq-eqb, ne-eqb}
 use lib.Seq.{drop-drop}
 use Rattle.text.specs.Parsed.{mapped}
-use Rattle.text.specs.Spots.{digit-less, digit-inside, number-first, number-none}
+use Rattle.text.specs.Laws.Spots.{digit-less, digit-inside, number-first, number-none}
 use Rattle.text.proofs.Spot.number.Statement.{statement}
 use Rattle.text.proofs.Spot.number.Tie as tie
 

@@ -2,7 +2,8 @@
 use borrow.Author.Needs.{needs}
 use Rattle.text.specs.Parsed.{andThen, mapped}
 use Rattle.text.specs.Numbers.{numberAfter}
-use Rattle.text.specs.Spots.{stepped, told}
+use Rattle.text.specs.Inner.Spots.{stepped}
+use Rattle.text.specs.Laws.Spots.{told}
 use Rattle.text.proofs.Spot.number_after.Statement.{statement}
 use Rattle.text.proofs.Spot.number_after.Tie as tie
 

@@ -7,11 +7,11 @@ use mathlib.Core.Path.{_≡_, refl, sym, _∙_}
 use native.Mathlib.Omega.{arith}
 use Prim.Native.Nat.{ℕ, _-_}
 use lib.ListN.{length}
-use Rattle.works.specs.Answers.{settled-answer, refused-answer}
-use Rattle.groups.specs.Flat.{groupsIn, storedAt}
+use Rattle.works.specs.Laws.Answers.{settled-answer, refused-answer}
+use Rattle.groups.specs.Inner.Flat.{groupsIn, storedAt}
 use Rattle.groups.specs.Laws.Walk.{walk-whole}
 use Rattle.groups.specs.declared.Stored.{Stored}
-use Rattle.works.specs.Ready.{Workspace}
+use Rattle.works.specs.Inner.Ready.{Workspace}
 use Rattle.works.specs.Settling as settling
 use Rattle.works.specs.Tables.{Table, tableOf, width}
 use Rattle.works.specs.Laws.Running.{Passing, Unsettled, opening-sound, width-small, passing-sound, passing-start, passing-end, next, next-turning, next-stops, next-passes, unsettled-start, pass-refused, pass-settled, pass-falls, pass-goes-on}

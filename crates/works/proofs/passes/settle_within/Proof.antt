@@ -8,8 +8,9 @@ use lib.ListN.{length}
 use types.Run.{OneOf}
 use denote.Enum.Declared.{tagOf}
 use Rattle.works.proofs.Settling.{the-type}
-use Rattle.works.specs.Answers.{answerOf, tableAfter, settled-any}
-use Rattle.groups.specs.Flat.{groupsIn}
+use Rattle.works.specs.Answers.{answerOf, tableAfter}
+use Rattle.works.specs.Laws.Answers.{settled-any}
+use Rattle.groups.specs.Inner.Flat.{groupsIn}
 use Rattle.works.specs.Settling.{Outcome, settle}
 use Rattle.works.specs.Tables.{Table, tableOf}
 use Rattle.works.specs.Laws.Inside.{same-ranges}

@@ -2,7 +2,7 @@
 use borrow.Author.Needs.{needs}
 use native.Mathlib.Omega.{arith}
 use Rattle.model.specs.Groups.{Group}
-use Rattle.works.specs.Ready.{groupOf}
+use Rattle.works.specs.Inner.Ready.{groupOf}
 use Rattle.works.specs.Tables.{Table, tableOf}
 use Rattle.works.specs.Laws.Turning.{members-named, highs-named, gathered-sound, turn-refused, turn-narrowed}
 use Rattle.works.proofs.turns.narrow_members.Statement.{statement}

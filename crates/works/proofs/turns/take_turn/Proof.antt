@@ -7,10 +7,10 @@ use Prim.Native.Nat.{ℕ, _+_, _-_, _≤_}
 use lib.ListN.{take, drop}
 use lib.Seq.{length-take-le}
 use Rattle.group.specs.Sound.{greatestCount}
-use Rattle.groups.specs.Flat.{groupIn}
+use Rattle.groups.specs.Inner.Flat.{groupIn}
 use Rattle.groups.specs.Laws.Reading.{size-stored}
 use Rattle.groups.specs.declared.Stored.{Stored}
-use Rattle.works.specs.Ready.{groupOf, Turning}
+use Rattle.works.specs.Inner.Ready.{groupOf, Turning}
 use Rattle.works.specs.Tables.{size}
 use Rattle.works.specs.Laws.Parts.{part}
 use Rattle.works.specs.Laws.Turning.{count-few, room}

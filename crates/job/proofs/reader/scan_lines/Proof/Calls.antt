@@ -39,10 +39,10 @@ use denote.Triple.Walked.{says}
 use Rattle.text.specs.declared.Spot.{Spot}
 use Rattle.text.proofs.Spot as S
 use Rattle.text.proofs.Spot.Laws as S′
-use Rattle.groups.specs.Flat.{mostFlat}
+use Rattle.groups.specs.Inner.Flat.{mostFlat}
 use Rattle.job.specs.Job.{mostBytes, mostUnits}
-use Rattle.job.specs.Steps.{Bounded, LineTaken}
-use Rattle.job.specs.Reading.{countsOf}
+use Rattle.job.specs.Inner.Steps.{Bounded, LineTaken}
+use Rattle.job.specs.Inner.Reading.{countsOf}
 use Rattle.job.specs.declared.steps.Progress.{Progress}
 use Rattle.job.specs.declared.steps.Taken.{Taken}
 use Rattle.job.specs.declared.Reading.{Reading}

@@ -43,11 +43,11 @@ use Rattle.text.proofs.Spot as S
 use Rattle.text.proofs.Spot.Laws as S′
 use Rattle.model.proofs.Refusal as F
 use Rattle.model.proofs.Refusal.Laws as F′
-use Rattle.groups.specs.Flat.{mostFlat}
+use Rattle.groups.specs.Inner.Flat.{mostFlat}
 use Rattle.job.specs.Job.{mostBytes, mostUnits}
-use Rattle.job.specs.Steps.{Bounded, LineTaken}
-use Rattle.job.specs.Reading.{Scanned, countsOf}
-use Rattle.job.specs.Scanning.{Moment, on-line, scanned-counts, scanned-stop}
+use Rattle.job.specs.Inner.Steps.{Bounded, LineTaken}
+use Rattle.job.specs.Inner.Reading.{Scanned, countsOf}
+use Rattle.job.specs.Laws.Scanning.{Moment, on-line, scanned-counts, scanned-stop}
 use Rattle.job.specs.declared.steps.Progress.{Progress}
 use Rattle.job.specs.declared.steps.Taken.{Taken}
 use Rattle.job.specs.declared.steps.Taken.the-variants as taken

@@ -1,0 +1,14 @@
+-- The laws, a file for each topic.
+pub mod Answers
+pub mod Bounds
+pub mod Edges
+pub mod Ends
+pub mod Findings
+pub mod First
+pub mod Flanks
+pub mod Levelling
+pub mod Narrowing
+pub mod Promises
+pub mod Reaching
+pub mod Sound
+pub mod Tabled

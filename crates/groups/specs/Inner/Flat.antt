@@ -1,0 +1,84 @@
+-- The groups of a job as one flat list of numbers: how they are written, and how they are read. Assumes nothing.
+use Prim.Native.Nat.{ℕ, zero, suc, _+_, _*_, _≤_}
+use mathlib.Core.List.{List, [], _∷_, _++_}
+use lib.ListN.{length, getD, take, drop}
+use Rattle.model.specs.Groups.{Group}
+use Rattle.model.specs.declared.Limit.{Limit}
+use Rattle.model.specs.declared.Limit.the-variants.{Any, AtMost}
+use Rattle.model.specs.declared.Limits.{Limits}
+use Rattle.groups.specs.declared.Stored.{Stored}
+
+-- the number that a limit is stored as: 0 for any, 1 more than the limit otherwise
+abbrev pub limitCode : Limit → ℕ
+limitCode Any = 0
+limitCode (AtMost most) = most + 1
+
+-- the greatest number of 64 bits
+abbrev pub mostWord : ℕ
+mostWord = 18_446_744_073_709_551_615
+
+-- a limit's number fits 64 bits
+abbrev pub Coded : Limit → Type 0
+Coded limit = limitCode limit ≤ mostWord
+
+-- the limit that a number stands for
+abbrev pub limitOf : ℕ → Limit
+limitOf zero = Any
+limitOf (suc most) = AtMost most
+
+-- the numbers in front of a group's members: total, deviation limit, spread limit, number of members
+abbrev pub headOf : ℕ → Limits → ℕ → List ℕ
+headOf total limits count = total ∷ limitCode (limits .deviation) ∷ limitCode (limits .spread) ∷ count ∷ []
+
+-- a group's numbers
+abbrev pub flatGroup : Group → List ℕ
+flatGroup g = headOf (g .total) (g .limits) (length (g .members)) ++ g .members
+
+-- the groups one after another
+unfoldable pub flatten : List Group → List ℕ
+flatten [] = []
+flatten (g ∷ gs) = flatGroup g ++ flatten gs
+
+-- the numbers that so many groups with so many memberships take
+abbrev pub flatLength : ℕ → ℕ → ℕ
+flatLength groups taken = groups * 4 + taken
+
+-- the most: 64 groups with 4,096 memberships
+abbrev pub mostFlat : ℕ
+mostFlat = 4352
+
+-- what stands at an index: a group's total and limits, where its members begin, how many they are, where the next group starts
+abbrev pub storedAt : List ℕ → ℕ → Stored
+storedAt flat at = record {
+  total = getD flat at 0;
+  limits = record { deviation = limitOf (getD flat (at + 1) 0); spread = limitOf (getD flat (at + 2) 0) };
+  from = at + 4;
+  count = getD flat (at + 3) 0;
+  next = at + 4 + getD flat (at + 3) 0;
+}
+
+-- it lies whole in the list
+abbrev pub Whole : List ℕ → ℕ → Type 0
+Whole flat at = at + 4 + getD flat (at + 3) 0 ≤ length flat
+
+-- the group with its members
+abbrev pub groupIn : List ℕ → Stored → Group
+groupIn flat stored = record { total = stored .total; limits = stored .limits; members = take (stored .count) (drop (stored .from) flat) }
+
+-- so many groups from an index on
+unfoldable pub groupsFrom : ℕ → ℕ → List ℕ → List Group
+groupsFrom zero at flat = []
+groupsFrom (suc count) at flat = groupIn flat (storedAt flat at) ∷ groupsFrom count (storedAt flat at .next) flat
+
+-- the first groups, so many
+abbrev pub groupsIn : ℕ → List ℕ → List Group
+groupsIn count flat = groupsFrom count 0 flat
+
+-- the list holds so many groups whole from an index on
+pub data HoldsFrom : ℕ → ℕ → List ℕ → Type 0 where
+  none : {at : ℕ} {flat : List ℕ} → HoldsFrom 0 at flat
+  also : {count at : ℕ} {flat : List ℕ} → Whole flat at → HoldsFrom count (storedAt flat at .next) flat → HoldsFrom (suc count) at flat
+
+-- it holds so many groups whole
+abbrev pub Holds : ℕ → List ℕ → Type 0
+Holds count flat = HoldsFrom count 0 flat

@@ -1,0 +1,25 @@
+-- What scanning a text leaves in the lists. Assumes nothing.
+use Prim.Native.Nat.{ℕ}
+use mathlib.Core.List.{List, _++_}
+use mathlib.Core.Path.{_≡_}
+use lib.Dec.{eqb}
+use lib.ListN.{length, drop}
+use Rattle.model.specs.Shares.{pick}
+use Rattle.job.specs.Job.{Job, accepted, refusal, readJob}
+use Rattle.groups.specs.Inner.Flat.{flatten}
+use Rattle.job.specs.declared.steps.Progress.{Progress}
+use Rattle.job.specs.declared.Reading.{Reading}
+use Rattle.job.specs.declared.Reading.the-variants.{Read, Refused}
+use Rattle.job.specs.Reading.{readingOf}
+
+-- the answer to a text whose lines are all taken: 01: "10 no unit line, place 0"
+unfoldable pub countsOf : Progress → Reading
+countsOf p = pick (eqb (p .units) 0) (Refused (refusal 10 0)) (Read (p .units) (p .groups))
+
+-- what scanning a text answers, and where it is accepted, what the lists begin with
+pub record Scanned (text lows₀ highs₀ flat₀ lows highs flat : List ℕ) (r : Reading) : Type 0 where
+  pub answer : r ≡ readingOf (readJob text)
+  pub found-lows : (job : Job) → readJob text ≡ accepted job → lows ≡ job .lows ++ drop (length (job .lows)) lows₀
+  pub found-highs : (job : Job) → readJob text ≡ accepted job → highs ≡ job .highs ++ drop (length (job .lows)) highs₀
+  pub pairs : (job : Job) → readJob text ≡ accepted job → length (job .highs) ≡ length (job .lows)
+  pub found-flat : (job : Job) → readJob text ≡ accepted job → flat ≡ flatten (job .groups) ++ drop (length (flatten (job .groups))) flat₀

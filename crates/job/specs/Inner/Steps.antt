@@ -1,0 +1,71 @@
+-- What the code holds of a job while it reads, and what taking a line does to it. Assumes nothing.
+use Prim.Native.Nat.{ℕ, _≤_}
+use mathlib.Core.List.{List, _++_}
+use mathlib.Core.Path.{_≡_}
+use lib.ListN.{length, drop}
+use Rattle.text.specs.Parsed.{mapped, parsed}
+use Rattle.text.specs.Inner.Numbers.{held}
+use Rattle.job.specs.Form.{UnitLine, Line, unit, group, groupAs, line}
+use Rattle.groups.specs.Memberships.{memberships}
+use Rattle.groups.specs.Inner.Flat.{flatten, flatLength}
+use Rattle.job.specs.Job.{Job, mostUnits, mostGroups, mostMemberships, Stepped, next, stop, stepOn}
+use Rattle.job.specs.declared.steps.Progress.{Progress}
+use Rattle.job.specs.declared.steps.Taken.{Taken}
+use Rattle.job.specs.declared.steps.Taken.the-variants as taken
+
+-- the counts are within 01's limits
+pub record Bounded (p : Progress) : Type 0 where
+  pub units : p .units ≤ mostUnits
+  pub groups : p .groups ≤ mostGroups
+  pub memberships : p .memberships ≤ mostMemberships
+
+-- the table and the flat list: what they held before the reading, and what they hold
+pub record Lists : Type 0 where
+  pub lows₀ : List ℕ
+  pub highs₀ : List ℕ
+  pub flat₀ : List ℕ
+  pub lows : List ℕ
+  pub highs : List ℕ
+  pub flat : List ℕ
+
+-- the counts are a job's, and the lists begin with what the job holds
+pub record Holds (job : Job) (p : Progress) (l : Lists) : Type 0 where
+  pub bounded : Bounded p
+  pub units : length (job .lows) ≡ p .units
+  pub pairs : length (job .highs) ≡ p .units
+  pub groups : length (job .groups) ≡ p .groups
+  pub taken : memberships (job .groups) ≡ p .memberships
+  pub lows : l .lows ≡ job .lows ++ drop (p .units) (l .lows₀)
+  pub highs : l .highs ≡ job .highs ++ drop (p .units) (l .highs₀)
+  pub flat : l .flat ≡ flatten (job .groups) ++ drop (flatLength (p .groups) (p .memberships)) (l .flat₀)
+
+-- an answer says what a line did
+abbrev pub Answers : List ℕ → Lists → Taken → Stepped → Type 0
+Answers text l (taken.Line p spot) stepped = (job : Job) × (stepped ≡ next job (drop (spot .at) text)) × Holds job p l
+Answers text l (taken.Refused r) stepped = stepped ≡ stop r
+
+-- the lists, given one by one
+abbrev pub lists : List ℕ → List ℕ → List ℕ → List ℕ → List ℕ → List ℕ → Lists
+lists lows₀ highs₀ flat₀ lows highs flat =
+    record { lows₀ = lows₀; highs₀ = highs₀; flat₀ = flat₀; lows = lows; highs = highs; flat = flat }
+
+-- taking a unit line, whatever the job so far
+abbrev pub UnitTaken : Progress → UnitLine → ℕ → List ℕ → List ℕ → List ℕ → List ℕ → Taken → Type 0
+UnitTaken p u at lows highs lows′ highs′ r =
+    (text : List ℕ) (job : Job) (lows₀ highs₀ flat₀ flat : List ℕ)
+    → Holds job p (lists lows₀ highs₀ flat₀ lows highs flat)
+    → Answers text (lists lows₀ highs₀ flat₀ lows′ highs′ flat) r (stepOn job (parsed (unit u) (drop at text)))
+
+-- taking a group line
+abbrev pub GroupTaken : List ℕ → Progress → ℕ → List ℕ → List ℕ → Taken → Type 0
+GroupTaken text p at flat flat′ r =
+    (job : Job) (lows₀ highs₀ flat₀ lows highs : List ℕ)
+    → Holds job p (lists lows₀ highs₀ flat₀ lows highs flat)
+    → Answers text (lists lows₀ highs₀ flat₀ lows highs flat′) r (stepOn job (mapped group (groupAs held (drop at text))))
+
+-- taking a line
+abbrev pub LineTaken : List ℕ → Progress → ℕ → List ℕ → List ℕ → List ℕ → List ℕ → List ℕ → List ℕ → Taken → Type 0
+LineTaken text p at lows highs flat lows′ highs′ flat′ r =
+    (job : Job) (lows₀ highs₀ flat₀ : List ℕ)
+    → Holds job p (lists lows₀ highs₀ flat₀ lows highs flat)
+    → Answers text (lists lows₀ highs₀ flat₀ lows′ highs′ flat′) r (stepOn job (line (drop at text)))

@@ -1,0 +1,169 @@
+-- Taking a line: the code's tests and stores do to its lists what the line does to the job. Assumes nothing.
+use Prim.Native.Nat.{ℕ, zero, suc, _+_, _≤_, _<_}
+use mathlib.Core.Bool.{true, false}
+use mathlib.Core.List.{List, [], _∷_, _++_, map, append-assoc}
+use mathlib.Core.Path.{_≡_, refl, sym, ap, _∙_}
+use native.Mathlib.Omega.{arith}
+use lib.ListN.{length, take, drop, set, length-append, length-drop, length-map}
+use lib.Seq.{sets, sets-eq, take-at, drop-at, length-take-le}
+use Rattle.model.specs.declared.Limits.{Limits}
+use Rattle.text.specs.Parsed.{parsed, failed, mapped, orElse}
+use Rattle.text.specs.Inner.Numbers.{held}
+use Rattle.job.specs.Form.{UnitLine, GroupLine, unit, group, unitAs, groupAs, lineAs, line}
+use Rattle.job.specs.Laws.Held.{step-held}
+use Rattle.groups.specs.Inner.Flat.{mostFlat, headOf, flatGroup, flatten, flatLength}
+use Rattle.groups.specs.Laws.Storing.{flatten-snoc, length-flatten, memberships-snoc, stored, put-behind}
+use Rattle.job.specs.Job.{Job, mostUnits, unitVerdict, headVerdict, membersVerdict, verdict, first, allNamed, distinct, memberOf, groupOf, add, refusal, placeOf, judged, next, stop, stepOn}
+use Rattle.job.specs.Laws.Verdicts.{unit-good, head-good}
+use Rattle.job.specs.Inner.Steps.{Lists, Holds}
+use Rattle.job.specs.declared.steps.Progress.{Progress}
+use Rattle.job.specs.Inner.Taking.{placeAt}
+
+judged-stop : (v : ℕ) (job : Job) (s : List ℕ) (place : ℕ) → (v ≡ 0 → ⊥) → judged v job s place ≡ stop (refusal v place)
+judged-stop zero job s place n = absurd (n refl)
+judged-stop (suc v) job s place n = refl
+
+module _ (job : Job) (p : Progress) (l : Lists) (holds : Holds job p l) where
+  place-held : placeOf job ≡ placeAt p
+  place-held = rw (holds .units, holds .groups)
+
+  -- a line that is not in the form
+  pub not-in-form : stepOn job failed ≡ stop (refusal 3 (placeAt p))
+  unfolding stepOn
+  not-in-form = rw place-held
+
+  unit-verdict : (u : UnitLine) → verdict job (unit u) ≡ unitVerdict (p .units) (p .groups) u
+  unfolding verdict
+  unit-verdict u = rw (holds .units, holds .groups)
+
+  -- a unit line with a refusal
+  pub unit-refused : (u : UnitLine) (s : List ℕ) (v : ℕ) → v ≡ unitVerdict (p .units) (p .groups) u → (v ≡ 0 → ⊥) → stepOn job (parsed (unit u) s) ≡ stop (refusal v (placeAt p))
+  unfolding stepOn
+  unit-refused u s v e n = rw (unit-verdict u, ← e, judged-stop v (add job (unit u)) s (placeOf job) n, place-held)
+
+  -- a unit line without one
+  pub unit-next : (u : UnitLine) (s : List ℕ) → unitVerdict (p .units) (p .groups) u ≡ 0 → stepOn job (parsed (unit u) s) ≡ next (add job (unit u)) s
+  unfolding stepOn
+  unit-next u s e = rw (unit-verdict u, e)
+
+  room : (xs d ys : List ℕ) → length xs ≡ p .units → ys ≡ xs ++ drop (p .units) d → p .units < length ys → p .units < length d
+  room xs d ys e f h =
+      omega (arith, ap length f, length-append xs (drop (p .units) d), length-drop (p .units) d)
+
+  -- the lists with a unit more hold the job with it
+  pub unit-holds : (u : UnitLine) → unitVerdict (p .units) (p .groups) u ≡ 0 → mostUnits ≤ length (l .lows) → mostUnits ≤ length (l .highs) → Holds (add job (unit u)) (record { units = p .units + 1; groups = p .groups; memberships = p .memberships }) (record { lows₀ = l .lows₀; highs₀ = l .highs₀; flat₀ = l .flat₀; lows = set (l .lows) (p .units) (u .low); highs = set (l .highs) (p .units) (u .high); flat = l .flat })
+  unfolding add
+  unit-holds u e a b =
+      let g = unit-good (p .units) (p .groups) u e in
+      record {
+        bounded = record { units = omega (arith, g .room); groups = holds .bounded .groups; memberships = holds .bounded .memberships };
+        units = rw (length-append, holds .units);
+        pairs = rw (length-append, holds .pairs);
+        groups = holds .groups;
+        taken = holds .taken;
+        lows = rw (holds .lows) (put-behind (job .lows) (l .lows₀) (p .units) (u .low) (holds .units) (room (job .lows) (l .lows₀) (l .lows) (holds .units) (holds .lows) (omega (arith, g .room))));
+        highs = rw (holds .highs) (put-behind (job .highs) (l .highs₀) (p .units) (u .high) (holds .pairs) (room (job .highs) (l .highs₀) (l .highs) (holds .pairs) (holds .highs) (omega (arith, g .room))));
+        flat = holds .flat;
+      }
+
+first-some : (v w : ℕ) → (v ≡ 0 → ⊥) → first v w ≡ v
+first-some zero w n = absurd (n refl)
+first-some (suc v) w n = refl
+
+-- the unit numbers of a group line
+abbrev pub numbersOf : GroupLine → List ℕ
+numbersOf g = g .first ∷ g .others
+
+module _ (job : Job) (p : Progress) (l : Lists) (holds : Holds job p l) (g : GroupLine) where
+  abbrev headNumber : ℕ
+  headNumber = headVerdict (p .groups) (p .memberships) (g .total) (g .limits) (length (numbersOf g))
+
+  group-verdict : verdict job (group g) ≡ first headNumber (membersVerdict (p .units) (numbersOf g))
+  unfolding verdict
+  group-verdict = rw (holds .units, holds .groups, holds .taken)
+
+  -- a group line whose head has a refusal
+  pub head-refused : (s : List ℕ) (v : ℕ) → v ≡ headNumber → (v ≡ 0 → ⊥) → stepOn job (parsed (group g) s) ≡ stop (refusal v (placeAt p))
+  unfolding stepOn
+  head-refused s v e n =
+      rw (group-verdict, ← e, first-some v (membersVerdict (p .units) (numbersOf g)) n, judged-stop v (add job (group g)) s (placeOf job) n, place-held job p l holds)
+
+  -- a group line with a unit number out of range
+  pub number-refused : (s : List ℕ) → headNumber ≡ 0 → allNamed (p .units) (numbersOf g) ≡ false → stepOn job (parsed (group g) s) ≡ stop (refusal 8 (placeAt p))
+  unfolding stepOn membersVerdict
+  number-refused s e h = rw (group-verdict, e, h, place-held job p l holds)
+
+  -- a group line with a unit twice
+  pub twice-refused : (s : List ℕ) → headNumber ≡ 0 → allNamed (p .units) (numbersOf g) ≡ true → distinct (numbersOf g) ≡ false → stepOn job (parsed (group g) s) ≡ stop (refusal 9 (placeAt p))
+  unfolding stepOn membersVerdict
+  twice-refused s e h d = rw (group-verdict, e, h, d, place-held job p l holds)
+
+  -- a group line without a refusal
+  pub group-next : (s : List ℕ) → headNumber ≡ 0 → allNamed (p .units) (numbersOf g) ≡ true → distinct (numbersOf g) ≡ true → stepOn job (parsed (group g) s) ≡ next (add job (group g)) s
+  unfolding stepOn membersVerdict
+  group-next s e h d = rw (group-verdict, e, h, d)
+
+  -- where the line's numbers begin in the flat list
+  abbrev start : ℕ
+  start = flatLength (p .groups) (p .memberships)
+
+  fits : headNumber ≡ 0 → mostFlat ≤ length (l .flat) → start + 4 + length (numbersOf g) ≤ length (l .flat₀)
+  fits e h =
+      let k = head-good _ _ (g .total) (g .limits) _ e in
+      omega (arith, k .room, k .fits, ap length (holds .flat), length-append (flatten (job .groups)) (drop start (l .flat₀)), length-drop start (l .flat₀), length-flatten (job .groups), holds .groups, holds .taken)
+
+  -- the numbers of a group before its members
+  abbrev pub headNumbers : List ℕ
+  headNumbers = headOf (g .total) (g .limits) (length (numbersOf g))
+
+  flat-stored : headNumber ≡ 0 → mostFlat ≤ length (l .flat) → sets (sets (l .flat) (start + 4) (map memberOf (numbersOf g))) start headNumbers ≡ flatten (job .groups ++ groupOf g ∷ []) ++ drop (flatLength (p .groups + 1) (p .memberships + length (numbersOf g))) (l .flat₀)
+  flat-stored e h =
+      let ms : List ℕ = map memberOf (numbersOf g) in
+      let n : length ms ≡ length (numbersOf g) = length-map (numbersOf g) memberOf in
+      let before : length (flatten (job .groups)) ≡ start = length-flatten (job .groups) ∙ rw (holds .groups, holds .taken) in
+      let whole : flatten (job .groups) ++ flatGroup (groupOf g) ≡ flatten (job .groups ++ groupOf g ∷ []) = sym (flatten-snoc (job .groups) (groupOf g)) in
+      let end : start + 4 + length ms ≡ flatLength (p .groups + 1) (p .memberships + length (numbersOf g)) = omega arith in
+      ap (λ f. sets (sets f (start + 4) ms) start headNumbers) (holds .flat)
+      ∙ ap (λ k. sets (sets (flatten (job .groups) ++ drop start (l .flat₀)) (start + 4) ms) start (headOf (g .total) (g .limits) k)) (sym n)
+      ∙ stored (g .total) (g .limits) (length ms) ms (flatten (job .groups)) (l .flat₀) start before (omega (arith, fits e h))
+      ∙ ap (λ f. f ++ drop (start + 4 + length ms) (l .flat₀)) whole
+      ∙ ap (λ k. flatten (job .groups ++ groupOf g ∷ []) ++ drop k (l .flat₀)) end
+
+  -- the lists with a group more hold the job with it
+  pub group-holds : (count : ℕ) (flat : List ℕ) → headNumber ≡ 0 → mostFlat ≤ length (l .flat) → length (numbersOf g) ≡ count → flat ≡ sets (sets (l .flat) (start + 4) (map memberOf (numbersOf g))) start headNumbers → Holds (add job (group g)) (record { units = p .units; groups = p .groups + 1; memberships = p .memberships + count }) (record { lows₀ = l .lows₀; highs₀ = l .highs₀; flat₀ = l .flat₀; lows = l .lows; highs = l .highs; flat = flat })
+  unfolding add
+  group-holds count flat e h n s =
+      let k = head-good _ _ (g .total) (g .limits) _ e in
+      record {
+        bounded = record { units = holds .bounded .units; groups = omega (arith, k .room); memberships = omega (arith, k .fits) };
+        units = holds .units;
+        pairs = holds .pairs;
+        groups = rw (length-append, holds .groups);
+        taken = rw (memberships-snoc (job .groups) (groupOf g), holds .taken, length-map, ← n);
+        lows = holds .lows;
+        highs = holds .highs;
+        flat = rw (s, ← n) (flat-stored e h);
+      }
+
+-- the part of a list where numbers were stored
+pub part-of-sets : (d vs : List ℕ) (i : ℕ) → i + length vs ≤ length d → take (length vs) (drop i (sets d i vs)) ≡ vs
+part-of-sets d vs i h =
+    rw (sets-eq vs d i h, append-assoc, drop-at (take i d) (vs ++ drop (i + length vs) d) i (length-take-le i d (omega arith))) (take-at vs _ (length vs) refl)
+
+-- equal heads are stored alike
+pub heads-alike : (d : List ℕ) (at : ℕ) {t u : ℕ} {l k : Limits} {n m : ℕ} → t ≡ u → l ≡ k → n ≡ m → sets d at (headOf t l n) ≡ sets d at (headOf u k m)
+heads-alike d at e f g = rw (e, f, g)
+
+-- a line that is no unit line is taken as a group line
+pub line-is-group : (job : Job) (p : Progress) (l : Lists) → Holds job p l → (s : List ℕ) → unitAs held s ≡ failed → stepOn job (mapped group (groupAs held s)) ≡ stepOn job (line s)
+unfolding lineAs mapped orElse
+line-is-group job p l holds s h =
+    sym (ap (λ p. stepOn job (orElse (mapped unit p) (mapped group (groupAs held s)))) h)
+    ∙ step-held job s (omega (arith, holds .units, holds .bounded .units))
+
+-- a unit line is taken as one
+pub line-is-unit : (job : Job) (p : Progress) (l : Lists) → Holds job p l → (s : List ℕ) (u : UnitLine) (r : List ℕ) → unitAs held s ≡ parsed u r → stepOn job (parsed (unit u) r) ≡ stepOn job (line s)
+unfolding lineAs mapped orElse
+line-is-unit job p l holds s u r h =
+    sym (ap (λ p. stepOn job (orElse (mapped unit p) (mapped group (groupAs held s)))) h)
+    ∙ step-held job s (omega (arith, holds .units, holds .bounded .units))

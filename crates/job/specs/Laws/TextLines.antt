@@ -1,0 +1,114 @@
+-- Laws of the lines of a text as bytes. Assumes nothing.
+use Prim.Native.Nat.{ℕ, zero, suc, _+_, _/_, _%_, _<_}
+use mathlib.Core.Bool.{Bool, true, false}
+use mathlib.Core.List.{List, [], _∷_, _++_, append-assoc, flatten as joined}
+use mathlib.Core.Path.{_≡_, refl, sym, ap, _∙_}
+use native.Mathlib.Decide.{decLt}
+use native.Mathlib.Nat.{div-lt-self}
+use native.Mathlib.Omega.{arith}
+use borrow.Author.Tests.{ne-eqb, eqb-false}
+use lib.Dec.{eqb}
+use Rattle.model.specs.Laws.Tests.{neither}
+use Rattle.model.specs.Shares.{pick}
+use Rattle.model.specs.declared.Limit.{Limit}
+use Rattle.model.specs.declared.Limit.the-variants.{Any, AtMost}
+use Rattle.text.specs.Numbers.{printNumber}
+use Rattle.text.specs.Laws.Printed.{print-one, print-more}
+use Rattle.job.specs.Form.{Line, unit, group, unitOpening, groupOpening, deviationOpening, spreadOpening, membersOpening, space, anyWord, printLimit, printMembers, printLine}
+use Rattle.job.specs.Job.{holds}
+use Rattle.job.specs.TextLines.{ahead, linesOf}
+
+-- one byte more in the lines is one more in the text
+joined-ahead : (b : ℕ) (ls : List (List ℕ)) → joined (ahead b ls) ≡ b ∷ joined ls
+unfolding ahead joined
+joined-ahead b [] = refl
+joined-ahead b (l ∷ ls) = refl
+
+-- the lines one after another are the text
+pub joined-lines : (s : List ℕ) → joined (linesOf s) ≡ s
+unfolding linesOf joined
+joined-lines [] = refl
+joined-lines (b ∷ s) = by-byte (eqb b 10) (joined-lines s)
+  where
+    by-byte : (ends : Bool) → joined (linesOf s) ≡ s → joined (pick ends ((b ∷ []) ∷ linesOf s) (ahead b (linesOf s))) ≡ b ∷ s
+    by-byte true again = ap (λ r. b ∷ r) again
+    by-byte false again = joined-ahead b (linesOf s) ∙ ap (λ r. b ∷ r) again
+
+-- bytes that are one line: byte 10 ends them and stands nowhere else
+pub record OneLine (bytes : List ℕ) : Type 0 where
+  pub body : List ℕ
+  pub ended : bytes ≡ body ++ 10 ∷ []
+  pub inside : holds 10 body ≡ false
+
+-- a number in neither of two lists is not in both together
+both-without : (x : ℕ) (xs ys : List ℕ) → holds x xs ≡ false → holds x ys ≡ false → holds x (xs ++ ys) ≡ false
+unfolding holds
+both-without x [] ys p q = q
+both-without x (y ∷ xs) ys p q = let n = neither (eqb x y) (holds x xs) p in rw (n .0) (both-without x xs ys (n .1) q)
+
+-- the bytes up to the first byte 10 are the first line
+first-line : (w s : List ℕ) → holds 10 w ≡ false → linesOf (w ++ 10 ∷ s) ≡ (w ++ 10 ∷ []) ∷ linesOf s
+unfolding linesOf holds ahead
+first-line [] s h = refl
+first-line (b ∷ w) s h =
+    let n = neither (eqb 10 b) (holds 10 w) h in
+    rw (ne-eqb b 10 (λ e. eqb-false 10 b (n .0) (sym e)), first-line w s (n .1))
+
+-- a line is cut off as a whole
+pub lines-next : {bytes : List ℕ} → OneLine bytes → (s : List ℕ) → linesOf (bytes ++ s) ≡ bytes ∷ linesOf s
+lines-next one s = rw (one .ended, append-assoc (one .body) (10 ∷ []) s) (first-line (one .body) s (one .inside))
+
+-- bytes without byte 10 ahead of a line
+pub line-ahead : (w : List ℕ) {bytes : List ℕ} → holds 10 w ≡ false → OneLine bytes → OneLine (w ++ bytes)
+line-ahead w none one = record {
+  body = w ++ one .body;
+  ended = ap (λ s. w ++ s) (one .ended) ∙ sym (append-assoc w (one .body) (10 ∷ []));
+  inside = both-without 10 w (one .body) none (one .inside);
+}
+
+-- a number's bytes are digits
+number-without : (n v : ℕ) → v < n → holds 10 (printNumber v) ≡ false
+unfolding holds
+number-without zero v h = absurd (omega arith)
+number-without (suc n) v h =
+    elim (decLt v 10) [
+      | yes p ↦ rw (print-one v p, ne-eqb 10 (48 + v) (λ e. omega arith))
+      | no p ↦
+          let f : v / 10 < v = div-lt-self (omega arith) (omega arith) in
+          rw (print-more v (omega arith))
+          (both-without 10 (printNumber (v / 10)) _ (number-without n (v / 10) (omega arith)) (rw (ne-eqb 10 (48 + v % 10) (λ e. omega arith))))
+    ]
+
+-- a number ahead of a line
+pub number-ahead : (v : ℕ) {bytes : List ℕ} → OneLine bytes → OneLine (printNumber v ++ bytes)
+number-ahead v one = line-ahead (printNumber v) (number-without (suc v) v (omega arith)) one
+
+-- a limit
+limit-ahead : (l : Limit) {bytes : List ℕ} → OneLine bytes → OneLine (printLimit l ++ bytes)
+unfolding printLimit holds
+limit-ahead Any one = line-ahead anyWord refl one
+limit-ahead (AtMost v) one = number-ahead v one
+
+-- members
+members-ahead : (ms : List ℕ) {bytes : List ℕ} → OneLine bytes → OneLine (printMembers ms ++ bytes)
+unfolding printMembers holds
+members-ahead [] one = one
+members-ahead (m ∷ ms) {bytes} one =
+    rw (printMembers, append-assoc (printNumber m) (printMembers ms) bytes)
+    (line-ahead space refl (number-ahead m (members-ahead ms one)))
+
+-- a line as it is written is one line
+pub printed-one : (l : Line) → OneLine (printLine l)
+unfolding printLine holds
+printed-one (unit l) =
+    line-ahead unitOpening refl
+    (number-ahead (l .low) (line-ahead space refl (number-ahead (l .high) (record { body = 41 ∷ []; ended = refl; inside = refl }))))
+printed-one (group g) =
+    line-ahead groupOpening refl
+    (number-ahead (g .total)
+    (line-ahead deviationOpening refl
+    (limit-ahead (g .limits .deviation)
+    (line-ahead spreadOpening refl
+    (limit-ahead (g .limits .spread)
+    (line-ahead membersOpening refl
+    (members-ahead (g .first ∷ g .others) (record { body = 41 ∷ 41 ∷ []; ended = refl; inside = refl }))))))))

@@ -1,0 +1,94 @@
+-- What a line without a refusal satisfies. Assumes nothing.
+use Prim.Native.Nat.{ℕ, zero, suc, _+_, _≤_, _<_}
+use mathlib.Core.Bool.{Bool, true, false}
+use mathlib.Core.List.{List}
+use mathlib.Core.Path.{_≡_, refl}
+use native.Mathlib.Omega.{arith}
+use borrow.Author.Tests.{le-leb, lt-ltb, leb-true, ltb-true, eqb-true}
+use lib.Dec.{leb, ltb, eqb}
+use Rattle.model.specs.Figures.{greatestDeviation, greatestSpread, limitWithin}
+use Rattle.groups.specs.Inner.Flat.{mostWord, Coded}
+use Rattle.model.specs.Shares.{greatestShare, greatestTotal}
+use Rattle.model.specs.declared.Limit.{Limit}
+use Rattle.model.specs.declared.Limit.the-variants.{Any, AtMost}
+use Rattle.model.specs.declared.Limits.{Limits}
+use Rattle.job.specs.Form.{UnitLine}
+use Rattle.job.specs.Job.{mostUnits, mostGroups, mostMemberships, allNamed, distinct, unless, unitVerdict, headVerdict, membersVerdict, first}
+
+unless-zero : (t : Bool) (n r : ℕ) → unless t (suc n) r ≡ 0 → (t ≡ true) × (r ≡ 0)
+unless-zero true n r h = (refl, h)
+unless-zero false n r h = absurd (omega arith)
+
+-- neither refuses
+pub first-zero : (a b : ℕ) → first a b ≡ 0 → (a ≡ 0) × (b ≡ 0)
+first-zero zero b h = (refl, h)
+first-zero (suc a) b h = absurd (omega arith)
+
+-- a unit line without a refusal
+pub record UnitGood (units groups : ℕ) (l : UnitLine) : Type 0 where
+  pub low-fits : l .low ≤ greatestShare
+  pub high-fits : l .high ≤ greatestShare
+  pub no-group : groups ≡ 0
+  pub room : units < mostUnits
+  pub ordered : l .low ≤ l .high
+
+-- so says the verdict 0 of a unit line
+pub unit-good : (units groups : ℕ) (l : UnitLine) → unitVerdict units groups l ≡ 0 → UnitGood units groups l
+unfolding unitVerdict
+unit-good units groups l h =
+    let a = unless-zero (leb (l .low) greatestShare) 3 _ h in
+    let b = unless-zero (leb (l .high) greatestShare) 3 _ (a .1) in
+    let c = unless-zero (eqb groups 0) 4 _ (b .1) in
+    let d = unless-zero (ltb units mostUnits) 5 _ (c .1) in
+    let e = unless-zero (leb (l .low) (l .high)) 6 _ (d .1) in
+    record { low-fits = leb-true _ _ (a .0); high-fits = leb-true _ _ (b .0); no-group = eqb-true _ _ (c .0); room = ltb-true _ _ (d .0); ordered = leb-true _ _ (e .0) }
+
+-- a group line's head without a refusal
+pub record HeadGood (groups taken total : ℕ) (limits : Limits) (count : ℕ) : Type 0 where
+  pub total-fits : total ≤ greatestTotal
+  pub deviation-fits : limitWithin (limits .deviation) greatestDeviation ≡ true
+  pub spread-fits : limitWithin (limits .spread) greatestSpread ≡ true
+  pub room : groups < mostGroups
+  pub fits : taken + count ≤ mostMemberships
+
+-- so says the verdict 0 of a head
+pub head-good : (groups taken total : ℕ) (limits : Limits) (count : ℕ) → headVerdict groups taken total limits count ≡ 0 → HeadGood groups taken total limits count
+unfolding headVerdict
+head-good groups taken total limits count h =
+    let a = unless-zero (leb total greatestTotal) 3 _ h in
+    let b = unless-zero (limitWithin (limits .deviation) greatestDeviation) 3 _ (a .1) in
+    let c = unless-zero (limitWithin (limits .spread) greatestSpread) 3 _ (b .1) in
+    let d = unless-zero (ltb groups mostGroups) 5 _ (c .1) in
+    let e = unless-zero (leb (taken + count) mostMemberships) 5 _ (d .1) in
+    record { total-fits = leb-true _ _ (a .0); deviation-fits = b .0; spread-fits = c .0; room = ltb-true _ _ (d .0); fits = leb-true _ _ (e .0) }
+
+-- and a head that satisfies it all has the verdict 0
+pub good-head : {groups taken total : ℕ} {limits : Limits} {count : ℕ} → HeadGood groups taken total limits count
+    → headVerdict groups taken total limits count ≡ 0
+unfolding headVerdict
+good-head {groups} {taken} {total} {limits} {count} h =
+    rw (
+      le-leb total greatestTotal (h .total-fits),
+      h .deviation-fits,
+      h .spread-fits,
+      lt-ltb groups mostGroups (h .room),
+      le-leb (taken + count) mostMemberships (h .fits),
+    )
+
+-- members without a refusal
+pub record MembersGood (units : ℕ) (ms : List ℕ) : Type 0 where
+  pub all-named : allNamed units ms ≡ true
+  pub all-distinct : distinct ms ≡ true
+
+-- so says the verdict 0 of members
+pub members-good : (units : ℕ) (ms : List ℕ) → membersVerdict units ms ≡ 0 → MembersGood units ms
+unfolding membersVerdict
+members-good units ms h =
+    let a = unless-zero (allNamed units ms) 7 _ h in
+    let b = unless-zero (distinct ms) 8 _ (a .1) in
+    record { all-named = a .0; all-distinct = b .0 }
+
+-- a limit in range can be stored
+pub limit-coded : (most : ℕ) (l : Limit) → most < mostWord → limitWithin l most ≡ true → Coded l
+limit-coded most Any h e = omega arith
+limit-coded most (AtMost v) h e = omega (arith, leb-true v most e)

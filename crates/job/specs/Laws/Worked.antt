@@ -1,0 +1,85 @@
+-- The worked job of 01, read by computing. Assumes nothing.
+use Prim.Native.Nat.{ℕ}
+use mathlib.Core.List.{List, [], _∷_, _++_, flatten as joined, List·Memᴰ, List·Memᴰ·head, List·Memᴰ·tail, List·Permᴰ·swap}
+use mathlib.Core.Path.{_≡_, refl}
+use Rattle.model.specs.declared.Limit.the-variants.{Any, AtMost}
+use Rattle.text.specs.Parsed.{andThen, mapped, orElse, word}
+use Rattle.text.specs.Words.{bytes}
+use Rattle.text.specs.Numbers.{number, numberAfter, digits, digitsOf, printNumber}
+use Rattle.job.specs.Form.{Line, unit, group, printLimit, printMembers, printLine, numberAs, limitAs, unitAs, membersAs, headAs, grouped, groupAs, lineAs, line}
+use Rattle.groups.specs.Memberships.{memberships}
+use Rattle.groups.specs.Inner.Flat.{flatten}
+use Rattle.job.specs.Job.{Job, allNamed, holds, distinct, unitVerdict, headVerdict, membersVerdict, verdict, add, stepOn, accepted, onward, readLines, someUnit, readJob}
+use Rattle.job.specs.Orders.{OfGroup, Reordered}
+use Rattle.job.specs.TextLines.{ahead, linesOf}
+
+-- the lines of the job text in 01
+unfoldable pub workedLines : List Line
+workedLines =
+    unit (record { low = 0; high = 10 })
+    ∷ unit (record { low = 0; high = 10 })
+    ∷ unit (record { low = 0; high = 10 })
+    ∷ group (record { total = 10; limits = record { deviation = AtMost 4; spread = Any }; first = 1; others = 2 ∷ [] })
+    ∷ group (record { total = 8; limits = record { deviation = Any; spread = AtMost 4 }; first = 2; others = 3 ∷ [] })
+    ∷ []
+
+unfoldable pub printLines : List Line → List ℕ
+printLines [] = []
+printLines (l ∷ ls) = printLine l ++ printLines ls
+
+-- the job that they are
+unfoldable pub workedJob : Job
+workedJob =
+    record {
+      lows = 0 ∷ 0 ∷ 0 ∷ [];
+      highs = 10 ∷ 10 ∷ 10 ∷ [];
+      groups =
+          record { total = 10; limits = record { deviation = AtMost 4; spread = Any }; members = 0 ∷ 1 ∷ [] }
+          ∷ record { total = 8; limits = record { deviation = Any; spread = AtMost 4 }; members = 1 ∷ 2 ∷ [] }
+          ∷ [];
+    }
+
+-- it reads so
+pub worked-reads : readJob (printLines workedLines) ≡ accepted workedJob
+unfolding workedLines printLines workedJob printLine printLimit printMembers printNumber digitsOf readJob readLines onward someUnit stepOn verdict unitVerdict headVerdict membersVerdict allNamed holds distinct memberships add line lineAs unitAs groupAs headAs limitAs numberAs membersAs grouped numberAfter number digits andThen mapped orElse word
+worked-reads = refl
+
+-- and its groups are these numbers
+pub worked-flat : flatten (workedJob .groups) ≡ 10 ∷ 5 ∷ 0 ∷ 2 ∷ 0 ∷ 1 ∷ 8 ∷ 0 ∷ 5 ∷ 2 ∷ 1 ∷ 2 ∷ []
+unfolding workedJob flatten
+worked-flat = refl
+
+-- its unit lines as they stand in 01
+abbrev unitTexts : List (List ℕ)
+unitTexts = (bytes "(unit 0 10)" ++ 10 ∷ []) ∷ (bytes "(unit 0 10)" ++ 10 ∷ []) ∷ (bytes "(unit 0 10)" ++ 10 ∷ []) ∷ []
+
+-- its first group line
+abbrev firstText : List ℕ
+firstText = bytes "(group 10 (dev 4) (spread any) (of 1 2))" ++ 10 ∷ []
+
+-- and its second
+abbrev secondText : List ℕ
+secondText = bytes "(group 8 (dev any) (spread 4) (of 2 3))" ++ 10 ∷ []
+
+-- they are its text
+pub worked-text : printLines workedLines ≡ joined (unitTexts ++ firstText ∷ secondText ∷ [])
+unfolding workedLines printLines printLine printLimit printMembers printNumber digitsOf joined
+worked-text = refl
+
+-- both begin as group lines
+begins : (line : List ℕ) → List·Memᴰ line (firstText ∷ secondText ∷ []) → OfGroup line
+begins line (List·Memᴰ·head is) = (_, is)
+begins line (List·Memᴰ·tail (List·Memᴰ·head is)) = (_, is)
+
+-- with its group lines in the other order it is such a reordered text
+pub worked-reordered : Reordered (joined (unitTexts ++ firstText ∷ secondText ∷ [])) (joined (unitTexts ++ secondText ∷ firstText ∷ []))
+unfolding linesOf ahead joined
+worked-reordered = record {
+  front = unitTexts;
+  groups = firstText ∷ secondText ∷ [];
+  others = secondText ∷ firstText ∷ [];
+  text-cut = refl;
+  other-is = refl;
+  of-groups = begins;
+  rearranged = List·Permᴰ·swap refl refl;
+}

@@ -1,0 +1,3 @@
+-- The laws, a file for each topic.
+pub mod Lengths
+pub mod Written

@@ -1,0 +1,11 @@
+-- What only inner contracts use, a file for each topic.
+pub mod Figures
+pub mod Orders
+pub mod Pins
+pub mod Probes
+pub mod Rows
+pub mod Spans
+pub mod Steps
+pub mod Tables
+pub mod Verdicts
+pub mod Walks

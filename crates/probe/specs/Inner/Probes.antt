@@ -1,0 +1,60 @@
+-- What a probe asks of the table and finds there. Assumes nothing.
+use Prim.Native.Nat.{ℕ, suc, _+_, _-_, _*_, _≤_, _<_}
+use mathlib.Core.List.{List}
+use mathlib.Core.Path.{_≡_}
+use lib.ListN.{length}
+use Rattle.model.specs.Levels.{clamp, growth}
+use Rattle.probe.specs.declared.rows.Row.{Row}
+use Rattle.probe.specs.declared.pins.Reach.{Reach}
+use Rattle.probe.specs.declared.probing.Levelled.{Levelled}
+use Rattle.probe.specs.Inner.Rows.{rowAt}
+use Rattle.probe.specs.Inner.Tables.{greatestPart}
+use Rattle.probe.specs.Inner.Pins.{Reached}
+
+-- T at a row's level of the group with v in place of a member's own
+unfoldable pub pinnedTotal : Row → ℕ → ℕ → ℕ → ℕ
+pinnedTotal row low high v = row .total + v - clamp low high (row .mark)
+
+-- it can be computed
+pub record Pinnable (row : Row) (low high v : ℕ) : Type 0 where
+  pub ordered : low ≤ high
+  pub small : row .total + v ≤ 512 * greatestPart
+  pub under : clamp low high (row .mark) ≤ row .total + v
+
+-- and so at every row of a table
+pub record Probeable (table : List ℕ) (last low high v : ℕ) : Type 0 where
+  pub few : last ≤ 512
+  pub room : 6 * last + 6 ≤ length table
+  pub rows : (k : ℕ) → k ≤ last → Pinnable (rowAt table k) low high v
+
+-- a row with T at most the total, whose next row has at least the total
+pub record Found (table : List ℕ) (last low high v total k : ℕ) : Type 0 where
+  pub upTo : k ≤ last
+  pub holds : pinnedTotal (rowAt table k) low high v ≤ total
+  pub next : k < last → total ≤ pinnedTotal (rowAt table (suc k)) low high v
+
+-- the other members can make up for v
+pub record InReach (table : List ℕ) (last low high v total : ℕ) : Type 0 where
+  pub least : pinnedTotal (rowAt table 0) low high v ≤ total
+  pub greatest : total ≤ pinnedTotal (rowAt table last) low high v
+
+-- v moved up by what is short of the total, or down by what is too much
+pub record IntoReach (table : List ℕ) (last low high v total r : ℕ) : Type 0 where
+  pub short : pinnedTotal (rowAt table last) low high v < total → r ≡ v + (total - pinnedTotal (rowAt table last) low high v)
+  pub long : total ≤ pinnedTotal (rowAt table last) low high v → total < pinnedTotal (rowAt table 0) low high v
+      → r + (pinnedTotal (rowAt table 0) low high v - total) ≡ v
+  pub within : InReach table last low high v total → r ≡ v
+
+-- the copies left over at a row, divided among the members that grow there, but for the pinned one
+pub record Divided (row : Row) (low high left : ℕ) (reach : Reach) : Type 0 where
+  pub none : left ≡ 0 → (reach .level ≡ row .mark) × (reach .growing ≡ 0) × (reach .over ≡ 0)
+  pub some : 0 < left → (steps : ℕ) × (reach .level ≡ row .mark + steps)
+      × (reach .growing + (row .highs + growth low high (row .mark)) ≡ row .lows)
+      × (reach .growing * steps + reach .over ≡ left) × (reach .over < reach .growing)
+
+-- a level with copies left over that gives the group its total, and the row below it
+pub record LevelledOn (lows highs table : List ℕ) (total : ℕ) (at : Levelled) : Type 0 where
+  pub found : Found table (2 * length lows) 0 0 0 total (at .row)
+  pub mark : ℕ
+  pub moving : ℕ
+  pub reached : Reached lows highs total mark moving (at .level) (at .over)

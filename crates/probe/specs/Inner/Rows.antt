@@ -1,0 +1,24 @@
+-- A row of a breakpoint table in a list of numbers. Assumes nothing.
+use Prim.Native.Nat.{ℕ, _+_, _*_}
+use mathlib.Core.List.{List}
+use mathlib.Core.Logic.{_≢_}
+use mathlib.Core.Path.{_≡_}
+use lib.ListN.{length, getD}
+use Rattle.probe.specs.declared.rows.Row.{Row}
+
+-- row k of a table
+unfoldable pub rowAt : List ℕ → ℕ → Row
+rowAt table k = record {
+  mark = getD table (6 * k) 0;
+  total = getD table (6 * k + 1) 0;
+  deviation = getD table (6 * k + 2) 0;
+  squares = getD table (6 * k + 3) 0;
+  lows = getD table (6 * k + 4) 0;
+  highs = getD table (6 * k + 5) 0;
+}
+
+-- row k is written, and every other row is as it was
+pub record Written (k : ℕ) (row : Row) (before after : List ℕ) : Type 0 where
+  pub same : length after ≡ length before
+  pub here : rowAt after k ≡ row
+  pub others : (j : ℕ) → j ≢ k → rowAt after j ≡ rowAt before j

@@ -1,0 +1,25 @@
+-- Rearranged lists, and the bounds passed from one breakpoint to the next. Assumes nothing.
+use Prim.Native.Nat.{ℕ, _+_, _*_, _≤_, _<_}
+use mathlib.Core.List.{List}
+use mathlib.Core.Path.{_≡_}
+use lib.ListN.{length, getD}
+use Rattle.model.specs.Shares.{sumOf}
+use Rattle.model.specs.Levels.{clamped}
+
+-- one list is a rearrangement of the other: no sum tells them apart
+pub record Rearranged (xs ys : List ℕ) : Type 0 where
+  pub sums : (f : ℕ → ℕ) → sumOf f xs ≡ sumOf f ys
+
+-- the first a numbers are at most m, and the others are at least w
+pub record Parted (m w a : ℕ) (xs : List ℕ) : Type 0 where
+  pub few : a ≤ length xs
+  pub before : (p : ℕ) → p < a → getD xs p 0 ≤ m
+  pub after : (p : ℕ) → a ≤ p → p < length xs → w ≤ getD xs p 0
+
+-- from m to w no bound lies: a of the lows and b of the highs are passed at m, and no further one before w
+pub record Span (lows highs : List ℕ) (m w a b : ℕ) : Type 0 where
+  pub rises : m ≤ w
+  pub sums : (f : ℕ → ℕ) (v : ℕ) → m ≤ v → v ≤ w
+      → sumOf f (clamped lows highs v) + (a * f m + b * f v) ≡ sumOf f (clamped lows highs m) + (a * f v + b * f m)
+  pub lowsClear : (i : ℕ) → i < length lows → m < getD lows i 0 → w ≤ getD lows i 0
+  pub highsClear : (i : ℕ) → i < length highs → m < getD highs i 0 → w ≤ getD highs i 0

@@ -1,0 +1,33 @@
+-- The rows that are written one after another, on the way up the rising bounds. Assumes nothing.
+use Prim.Native.Nat.{ℕ, suc, _+_}
+use mathlib.Core.List.{List}
+use mathlib.Core.Path.{_≡_}
+use lib.ListN.{length}
+use Rattle.probe.specs.declared.rows.Row.{Row}
+use Rattle.probe.specs.Inner.Orders.{Ordered}
+use Rattle.probe.specs.Inner.Spans.{Parted}
+use Rattle.probe.specs.Laws.Spans.{span}
+use Rattle.probe.specs.Inner.Tables.{Sums, SpanTo}
+
+-- the bounds in rising order, and a row reached on the way up
+pub record Risen (lows highs starts stops : List ℕ) : Type 0 where
+  pub startsFrom : Ordered 1 (length lows) lows starts
+  pub stopsFrom : Ordered 1 (length highs) highs stops
+
+pub record Walk (lows highs starts stops : List ℕ) (total : ℕ) (row : Row) : Type 0 where
+  pub sums : Sums lows highs total row
+  pub partedLows : Parted (row .mark) (row .mark) (row .lows) starts
+  pub partedHighs : Parted (row .mark) (row .mark) (row .highs) stops
+
+-- the row for the next bound
+pub record Stepped (lows highs starts stops : List ℕ) (total : ℕ) (row after : Row) : Type 0 where
+  pub span : SpanTo lows highs row (after .mark)
+  pub walk : Walk lows highs starts stops total after
+  pub counted : after .lows + after .highs ≡ suc (row .lows + row .highs)
+
+-- the row for level 0
+pub record Begun (lows highs : List ℕ) (total : ℕ) (row : Row) : Type 0 where
+  pub sums : Sums lows highs total row
+  pub at : row .mark ≡ 0
+  pub noLows : row .lows ≡ 0
+  pub noHighs : row .highs ≡ 0

@@ -1,0 +1,19 @@
+-- What is asked of a probe, and the pinned group's figures. Assumes nothing.
+use Prim.Native.Nat.{ℕ}
+use mathlib.Core.List.{List}
+use mathlib.Core.Path.{_≡_}
+use lib.ListN.{length}
+use Rattle.model.specs.Figures.{figuresOf}
+use Rattle.model.specs.Levels.{levelled}
+use Rattle.model.specs.declared.Figures.{Figures}
+use Rattle.probe.specs.Inner.Pins.{Pin}
+
+-- some ranges have v in place of what a member with this low and high has
+pub record Asked (lows highs : List ℕ) (low high v : ℕ) : Type 0 where
+  pub pinnedLows : List ℕ
+  pub pinnedHighs : List ℕ
+  pub pin : Pin lows highs low high v pinnedLows pinnedHighs
+
+-- the figures of the levelled shares in all such ranges
+pub record PinnedFigures (lows highs : List ℕ) (low high v total : ℕ) (figures : Figures) : Type 0 where
+  pub is : {lows′ highs′ : List ℕ} → Pin lows highs low high v lows′ highs′ → figures ≡ figuresOf (length lows′) total (levelled lows′ highs′ total)

@@ -1,0 +1,14 @@
+-- The laws, a file for each topic.
+pub mod Figures
+pub mod Fills
+pub mod Orders
+pub mod Pins
+pub mod Probes
+pub mod Reaching
+pub mod Rows
+pub mod Spans
+pub mod Steps
+pub mod Sums
+pub mod Tables
+pub mod Verdicts
+pub mod Walks

@@ -1,0 +1,84 @@
+-- Filling the table row after row. Assumes nothing.
+use Prim.Native.Nat.{ℕ, suc, _+_, _*_, _≤_, _<_}
+use mathlib.Core.List.{List}
+use mathlib.Core.Path.{_≡_}
+use native.Mathlib.Decide.{ℕ-discrete}
+use native.Mathlib.Omega.{arith}
+use lib.ListN.{length}
+use Rattle.probe.specs.declared.rows.Row.{Row}
+use Rattle.probe.specs.Inner.Rows.{rowAt, Written}
+use Rattle.probe.specs.Laws.Spans.{span}
+use Rattle.probe.specs.Laws.Walks.{parted-none, parted-all}
+use Rattle.probe.specs.Inner.Tables.{Sound, Sums, SpanTo, Table}
+use Rattle.probe.specs.Inner.Steps.{Risen, Walk, Stepped, Begun}
+
+-- the rows up to k are filled
+pub record Filled (lows highs starts stops : List ℕ) (total k : ℕ) (table : List ℕ) : Type 0 where
+  pub room : 6 * (2 * length lows) + 6 ≤ length table
+  pub few : k ≤ 2 * length lows
+  pub first : rowAt table 0 .mark ≡ 0
+  pub sums : (j : ℕ) → j ≤ k → Sums lows highs total (rowAt table j)
+  pub spans : (j : ℕ) → j < k → SpanTo lows highs (rowAt table j) (rowAt table (suc j) .mark)
+  pub walk : Walk lows highs starts stops total (rowAt table k)
+  pub counted : rowAt table k .lows + rowAt table k .highs ≡ k
+
+module _ {lows highs starts stops : List ℕ} {total : ℕ} where
+  -- the first row
+  pub filled-first : {row : Row} {before table : List ℕ} → 6 * (2 * length lows) + 6 ≤ length before
+      → Begun lows highs total row → Written 0 row before table → Filled lows highs starts stops total 0 table
+  filled-first {row} {before} {table} room begun put = record {
+    room = rw (put .same) room;
+    few = omega arith;
+    first = rw (put .here) (begun .at);
+    sums = λ j h. let e : j ≡ 0 = omega arith in rw (e, put .here) (begun .sums);
+    spans = λ j h. absurd (omega arith);
+    walk = rw (put .here) (record {
+      sums = begun .sums;
+      partedLows = rw (begun .at, begun .noLows) (parted-none starts);
+      partedHighs = rw (begun .at, begun .noHighs) (parted-none stops);
+    });
+    counted = rw (put .here) (omega (arith, begun .noLows, begun .noHighs));
+  }
+
+  -- one row more
+  pub filled-next : {k : ℕ} {row : Row} {before table : List ℕ} → Filled lows highs starts stops total k before → k < 2 * length lows
+      → Stepped lows highs starts stops total (rowAt before k) row → Written (suc k) row before table
+      → Filled lows highs starts stops total (suc k) table
+  filled-next {k} {row} {before} {table} filled more stepped put =
+      let kept : (j : ℕ) → j ≤ k → rowAt table j ≡ rowAt before j = (λ j h. put .others j (λ e. omega arith)) in
+      record {
+        room = rw (put .same) (filled .room);
+        few = more;
+        first = rw (kept 0 (omega arith)) (filled .first);
+        sums = λ j h. elim (ℕ-discrete j (suc k)) [
+          | yes e ↦ rw (e, put .here) (stepped .walk .sums)
+          | no e ↦ rw (kept j (omega arith)) (filled .sums j (omega arith))
+        ];
+        spans = λ j h. elim (ℕ-discrete j k) [
+          | yes e ↦ rw (e, put .here, kept k (omega arith)) (stepped .span)
+          | no e ↦ rw (kept j (omega arith), kept (suc j) (omega arith)) (filled .spans j (omega arith))
+        ];
+        walk = rw (put .here) (stepped .walk);
+        counted = rw (put .here) (omega (arith, stepped .counted, filled .counted));
+      }
+
+  -- all rows: every bound is passed
+  pub filled-all : {k : ℕ} {table : List ℕ} → Sound lows highs total → Risen lows highs starts stops
+      → Filled lows highs starts stops total k table → 2 * length lows ≤ k → Table lows highs total table
+  filled-all {k} {table} sound risen filled past =
+      let full : 2 * length lows ≡ k = omega (arith, filled .few) in
+      let end : Row = rowAt table k in
+      let all-lows : end .lows ≡ length starts =
+      omega (arith, filled .counted, filled .walk .sums, risen .startsFrom .same) in
+      let all-highs : end .highs ≡ length stops =
+      omega (arith, filled .counted, filled .walk .sums, risen .stopsFrom .same, sound .paired) in
+      record {
+        room = filled .room;
+        first = filled .first;
+        sums = λ j h. filled .sums j (omega arith);
+        spans = λ j h. filled .spans j (omega arith);
+        last = rw full (span (sound .ranges) (risen .startsFrom .rearranged) (risen .stopsFrom .rearranged)
+            (omega (arith, filled .walk .sums .share))
+            (parted-all (filled .walk .partedLows) all-lows) (parted-all (filled .walk .partedHighs) all-highs));
+        all = rw full (omega (arith, sound .paired, risen .startsFrom .same, risen .stopsFrom .same));
+      }

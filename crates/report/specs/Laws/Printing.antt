@@ -1,0 +1,100 @@
+-- Printing the lines of a flat list's groups, one after another. Assumes nothing.
+use Prim.Native.Nat.{ℕ, suc, _+_, _≤_, _<_}
+use mathlib.Core.List.{List, [], _∷_, flatten, List·Memᴰ·head, List·Memᴰ·tail}
+use mathlib.Core.Path.{_≡_, refl, sym, ap, subst, _∙_}
+use native.Mathlib.Numerals.{add-one}
+use native.Mathlib.Omega.{arith}
+use lib.ListN.{length, take, drop}
+use lib.Seq.{length-take-le}
+use Rattle.group.specs.Sound.{greatestCount}
+use Rattle.groups.specs.Inner.Flat.{storedAt, groupIn, groupsIn}
+use Rattle.groups.specs.Laws.Walk.{Walk, Next, walk-start, walk-end, walk-next}
+use Rattle.groups.specs.declared.Stored.{Stored}
+use Rattle.model.specs.Groups.{Group}
+use Rattle.print.specs.Laws.Written.{Rest, begin, next, done}
+use Rattle.print.specs.Inner.Written.{Wrote, Room}
+use Rattle.works.specs.Laws.Members.{gather-length}
+use Rattle.works.specs.Tables.{Table, size}
+use Rattle.report.specs.Ready.{Levelable, AllLevelable}
+use Rattle.report.specs.Inner.Ready.{Printable, Rooms, Workspace}
+use Rattle.report.specs.Reports.{lineOf, groupLines}
+
+module _ {table : Table} {group : Group} (levelable : Levelable table group) where
+  -- a group that can be levelled has at most 256 members
+  pub count-few : size group ≤ greatestCount
+  count-few = omega (arith, gather-length (table .lows) (group .members), levelable .shares .sound .few)
+
+  -- working lists have room for them
+  pub rooms : {lows highs plan members : List ℕ} {count : ℕ} → Workspace lows highs plan → members ≡ group .members → size group ≡ count
+      → Rooms (length members) (take count lows) (take count highs) plan
+  rooms {lows} {highs} {members = members} {count} space is-members counted =
+      let few : count ≤ greatestCount = omega (arith, count-few) in
+      let sized : length members ≡ count = ap length is-members ∙ counted in
+      record {
+        forLows = omega (arith, space .forLows, length-take-le count lows (omega (arith, space .forLows)));
+        forHighs = omega (arith, space .forHighs, length-take-le count highs (omega (arith, space .forHighs)));
+        forPlan = omega (arith, space .forPlan);
+      }
+
+module _ (flat : List ℕ) (count : ℕ) (table : Table) (entry : List ℕ) (start : ℕ) where
+  abbrev groups : List Group
+  groups = groupsIn count flat
+
+  abbrev all : List ℕ
+  all = flatten (groupLines 1 table groups)
+
+  -- the lines up to a number are written, the group after them starts at the number from: the lines that are left
+  pub record Printing (buffer : List ℕ) (at from number : ℕ) : Type 0 where
+    pub walk : Walk flat count from number
+    pub levelable : AllLevelable table (drop number groups)
+    pub rest : Rest all entry start (groupLines (suc number) table (drop number groups)) buffer at
+
+  -- at first all lines are left
+  pub printing-start : Printable flat count table → Room entry start all → Printing entry start 0 0
+  printing-start printable room = record {
+    walk = walk-start flat count (printable .holds);
+    levelable = printable .levelable;
+    rest = begin _ refl room;
+  }
+
+  -- at last none
+  pub printing-end : {buffer : List ℕ} {at from number : ℕ} → Printing buffer at from number → count ≤ number
+      → Wrote all entry start buffer at
+  unfolding groupLines flatten
+  printing-end {number = number} printing end =
+      let none : flatten (groupLines (suc number) table (drop number groups)) ≡ [] = rw (walk-end flat count (printing .walk) end) in
+      done none (printing .rest)
+
+  -- a group's line comes
+  module _ {buffer : List ℕ} {at from number : ℕ} (printing : Printing buffer at from number) (some : number < count)
+      {stored : Stored} (read : stored ≡ storedAt flat from) where
+    abbrev group : Group
+    group = groupIn flat stored
+
+    pub coming : Next flat count number stored
+    coming = walk-next flat count (printing .walk) some read
+
+    -- it and those after it can be levelled
+    levelable-next : AllLevelable table (group ∷ drop (number + 1) groups)
+    levelable-next = rw (coming .first) at (printing .levelable)
+
+    pub next-levelable : Levelable table group
+    next-levelable = levelable-next group (List·Memᴰ·head refl)
+
+    -- it is the first of the lines left
+    pub next-rest : Rest all entry start (lineOf (number + 1) table group ∷ groupLines (suc (number + 1)) table (drop (number + 1) groups)) buffer at
+    unfolding groupLines
+    next-rest =
+        let left : Rest all entry start (lineOf (suc number) table group ∷ groupLines (suc (suc number)) table (drop (number + 1) groups)) buffer at =
+        rw (coming .first, groupLines) at (printing .rest) in
+        subst (λ (n : ℕ). Rest all entry start (lineOf n table group ∷ groupLines (suc n) table (drop (number + 1) groups)) buffer at)
+        (sym (add-one number)) left
+
+    -- once it is written, those after it are left
+    pub next-printing : {exit : List ℕ} {to : ℕ} → Wrote (lineOf (number + 1) table group) buffer at exit to
+        → Printing exit to (stored .next) (number + 1)
+    next-printing wrote = record {
+      walk = coming .onward;
+      levelable = λ other member. levelable-next other (List·Memᴰ·tail member);
+      rest = next next-rest wrote;
+    }

@@ -1,0 +1,140 @@
+-- What a settling leaves can be reported: shares with each group's total exist, and the report fits its buffer. Assumes nothing.
+use Prim.Native.Nat.{ℕ, _≤_}
+use mathlib.Core.List.{List, _++_}
+use mathlib.Core.Path.{_≡_, refl, ap, _∙_}
+use native.Mathlib.Omega.{arith}
+use lib.ListN.{length, take, drop}
+use lib.Seq.{take-at, length-take-le}
+use Rattle.group.specs.Sound as one
+use Rattle.group.specs.Laws.Sound as laws
+use Rattle.group.specs.declared.Check.{Check}
+use Rattle.group.specs.declared.Check.the-variants.{Passed, Failed}
+use Rattle.groups.specs.Memberships.{memberships}
+use Rattle.groups.specs.Inner.Flat.{groupsIn}
+use Rattle.groups.specs.Laws.Reading.{groups-counted}
+use Rattle.job.specs.Job.{mostUnits, mostGroups, mostMemberships}
+use Rattle.model.specs.Groups.{Group}
+use Rattle.model.specs.Laws.Levelled.{within-sum-low, within-sum-high}
+use Rattle.works.specs.Calls.{Settlement, settlement, checkTable, leaving, afterCheck, settleJob}
+use Rattle.works.specs.Consistency.{SoundGroup, Sound, Consistent, PlanIn}
+use Rattle.works.specs.Laws.Checked.{passed-room, passed-opening}
+use Rattle.works.specs.Laws.Few.{size-few}
+use Rattle.works.specs.Laws.Inside.{widths-sums}
+use Rattle.works.specs.Laws.Members.{gather-length}
+use Rattle.works.specs.Laws.Passes.{sound-inside}
+use Rattle.works.specs.Laws.Settled.{settled-inside, settled-consistent, passes-bound}
+use Rattle.works.specs.Laws.Turns.{gathered}
+use Rattle.works.specs.Inner.Ready.{Prepared}
+use Rattle.works.specs.Settling.{Outcome, passesOf, settle}
+use Rattle.works.specs.Tables.{Table, tableOf, units, lowsOf, highsOf}
+use Rattle.works.specs.declared.Settling.the-variants as works
+use Rattle.report.specs.Laws.Evenness.{levelled-evenest}
+use Rattle.report.specs.Ready.{Levelable, Reportable}
+use Rattle.report.specs.Inner.Ready.{WithinLimits}
+
+-- a group that has a plan in the table can be levelled there
+levelable : {table : Table} {group : Group} {xs : List ℕ} → SoundGroup (units table) group → one.Sound (lowsOf table group) (highsOf table group)
+    → PlanIn table group xs → Levelable table group
+levelable sound ranges plan = record {
+  named = record { below = sound .below };
+  shares = record {
+    sound = ranges;
+    low = omega (arith, within-sum-low (plan .within), plan .adds);
+    high = omega (arith, within-sum-high (plan .within), plan .adds);
+  };
+}
+
+-- a settled table of a job within the limits of 01 can be reported
+pub reportable : {groups : List Group} {table final : Table} {passes : ℕ} → Sound groups table → units table ≤ mostUnits
+    → length groups ≤ mostGroups → memberships groups ≤ mostMemberships
+    → settle groups table ≡ Outcome.settled final passes → Reportable groups final passes
+reportable {groups} {table} {final} {passes} sound few-units few-groups few-memberships e =
+    let consistent : Consistent groups final = settled-consistent sound e in
+    let same : units final ≡ units table = settled-inside sound e .sameLows in
+    let sound-final : Sound groups final = sound-inside sound (consistent .valid) (settled-inside sound e) in
+    let bound : passesOf (Outcome.settled final passes) ≤ _ = rw e at (passes-bound sound) in
+    record {
+      valid = consistent .valid;
+      few-units = omega arith;
+      few-groups = few-groups;
+      few-memberships = few-memberships;
+      few-passes = omega (arith, bound, widths-sums (sound .valid), laws.highs-small (laws.sound (sound .valid) few-units));
+      levelable = λ group member.
+          let one-sound : SoundGroup (units final) group = sound-final .each group member in
+          levelable one-sound
+          (laws.sound (gathered final group (consistent .valid) one-sound)
+          (omega (arith, size-few one-sound, gather-length (final .lows) (group .members))))
+          (levelled-evenest sound-final consistent group member .plan);
+    }
+
+-- what settling groups over the first units of a table leaves when it answers with the passes
+pub record Settles (groups : List Group) (unitCount : ℕ) (lows highs nextLows nextHighs : List ℕ) (passes : ℕ) : Type 0 where
+  pub forLows : unitCount ≤ length lows
+  pub forHighs : unitCount ≤ length highs
+  pub sound : Sound groups (tableOf (take unitCount lows) (take unitCount highs))
+  pub few : length (take unitCount lows) ≤ mostUnits
+  pub settles : settle groups (tableOf (take unitCount lows) (take unitCount highs))
+      ≡ Outcome.settled (tableOf (take unitCount nextLows) (take unitCount nextHighs)) passes
+
+module _ {flat : List ℕ} {count unitCount : ℕ} (prepared : Prepared flat count unitCount) (lows highs : List ℕ) (scratch : ℕ) where
+  abbrev groups : List Group
+  groups = groupsIn count flat
+
+  abbrev opening : Table
+  opening = tableOf (take unitCount lows) (take unitCount highs)
+
+  pub settles : {nextLows nextHighs : List ℕ} {passes : ℕ}
+      → settlement (works.Settled passes) nextLows nextHighs ≡ settleJob groups unitCount lows highs scratch
+      → Settles groups unitCount lows highs nextLows nextHighs passes
+  unfolding settleJob
+  settles {nextLows} {nextHighs} {passes} is = by-check (checkTable unitCount lows highs scratch) refl is
+    where
+      by-outcome : (outcome : Outcome) → settle groups opening ≡ outcome → checkTable unitCount lows highs scratch ≡ Passed
+          → settlement (works.Settled passes) nextLows nextHighs ≡ leaving outcome unitCount lows highs
+          → Settles groups unitCount lows highs nextLows nextHighs passes
+      by-outcome (Outcome.refused number place more) e passed is =
+          let answers : works.Settled passes ≡ works.NoPlan number place more = ap (λ (s : Settlement). s .answer) is in
+          absurd (let z : _≡_ {A = ℕ} 0 1 = cc in omega arith)
+      by-outcome (Outcome.settled final more) e passed is =
+          let ready = passed-opening unitCount lows highs scratch passed prepared in
+          let inside = settled-inside (ready .sound) e in
+          let fits = passed-room unitCount lows highs scratch passed in
+          let lows-are : nextLows ≡ final .lows ++ drop unitCount lows = ap (λ (s : Settlement). s .lows) is in
+          let highs-are : nextHighs ≡ final .highs ++ drop unitCount highs = ap (λ (s : Settlement). s .highs) is in
+          let answers : works.Settled passes ≡ works.Settled more = ap (λ (s : Settlement). s .answer) is in
+          let counted : more ≡ passes = cc in
+          let as-many-lows : length (final .lows) ≡ unitCount = inside .sameLows ∙ length-take-le unitCount lows (fits .forLows) in
+          let as-many-highs : length (final .highs) ≡ unitCount = inside .sameHighs ∙ length-take-le unitCount highs (fits .forHighs) in
+          record {
+            forLows = fits .forLows;
+            forHighs = fits .forHighs;
+            sound = ready .sound;
+            few = ready .few;
+            settles =
+                rw (
+                  lows-are,
+                  highs-are,
+                  take-at (final .lows) (drop unitCount lows) unitCount as-many-lows,
+                  take-at (final .highs) (drop unitCount highs) unitCount as-many-highs,
+                  ← counted,
+                )
+                e;
+          }
+
+      by-check : (check : Check) → checkTable unitCount lows highs scratch ≡ check
+          → settlement (works.Settled passes) nextLows nextHighs ≡ afterCheck check lows highs (leaving (settle groups opening) unitCount lows highs)
+          → Settles groups unitCount lows highs nextLows nextHighs passes
+      by-check (Failed refusal) e is =
+          let answers : works.Settled passes ≡ works.Refused refusal = ap (λ (s : Settlement). s .answer) is in
+          absurd (let z : _≡_ {A = ℕ} 0 1 = cc in omega arith)
+      by-check Passed e is = by-outcome (settle groups opening) refl e is
+
+-- so the table that it leaves can be reported
+pub settles-reportable : {flat : List ℕ} {count unitCount passes : ℕ} {lows highs nextLows nextHighs : List ℕ} → WithinLimits flat count
+    → Settles (groupsIn count flat) unitCount lows highs nextLows nextHighs passes
+    → Reportable (groupsIn count flat) (tableOf (take unitCount nextLows) (take unitCount nextHighs)) passes
+settles-reportable {flat} {count} limits settles =
+    reportable (settles .sound) (settles .few)
+    (omega (arith, groups-counted count 0 flat, limits .few-groups))
+    (limits .few-memberships)
+    (settles .settles)

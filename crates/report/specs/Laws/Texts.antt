@@ -1,0 +1,111 @@
+-- Reporting a text, case by case: what the code answers is what the definition says. Assumes nothing.
+use Prim.Native.Nat.{ℕ, _≤_, _<_}
+use mathlib.Core.List.{List, _++_}
+use mathlib.Core.Path.{_≡_, sym, ap, _∙_}
+use native.Mathlib.Omega.{arith}
+use borrow.Author.Tests.{le-leb, lt-leb}
+use lib.ListN.{length, take, drop}
+use Rattle.job.specs.Job.{Job, refusal, mostBytes, readJob, accepted}
+use Rattle.job.specs.Inner.Reading.{Scanned}
+use Rattle.job.specs.Laws.Reading.{accepted-by}
+use Rattle.job.specs.Laws.Sound.{accepted-sound}
+use Rattle.job.specs.declared.Reading.{Reading}
+use Rattle.job.specs.declared.Reading.the-variants.{Read}
+use Rattle.job.specs.declared.Reading.the-variants as job
+use Rattle.model.specs.Groups.{Group}
+use Rattle.model.specs.declared.Refusal.{Refusal}
+use Rattle.works.specs.Calls.{Settlement, settlement, settleJob}
+use Rattle.groups.specs.Inner.Flat.{groupsIn}
+use Rattle.groups.specs.Laws.Reading.{flatten-groups}
+use Rattle.works.specs.Laws.Accepted.{read-settles, refused-settles}
+use Rattle.works.specs.Tables.{tableOf}
+use Rattle.works.specs.declared.Settling.the-variants as works
+use Rattle.report.specs.Calls.{reported, reportSettled, reportText}
+use Rattle.report.specs.Inner.Ready.{WithinLimits}
+use Rattle.report.specs.Reports.{reportOf}
+use Rattle.report.specs.declared.Reporting.the-variants.{Written, NoPlan, Refused}
+
+module _ (groups : List Group) (units : ℕ) {settled : Settlement} {lows highs : List ℕ} (buffer : List ℕ) where
+  -- a settled table is reported
+  pub settled-written : {passes count : ℕ} {exit : List ℕ} → settlement (works.Settled passes) lows highs ≡ settled
+      → count ≡ length (reportOf groups (tableOf (take units lows) (take units highs)) passes)
+      → exit ≡ reportOf groups (tableOf (take units lows) (take units highs)) passes ++ drop count buffer
+      → reported (Written count passes) lows highs exit ≡ reportSettled groups units settled buffer
+  unfolding reportSettled
+  settled-written is counted holds = rw (← is, holds, counted)
+
+  -- a refusal leaves the buffer
+  pub settled-none : {number place passes : ℕ} → settlement (works.NoPlan number place passes) lows highs ≡ settled
+      → reported (NoPlan number place passes) lows highs buffer ≡ reportSettled groups units settled buffer
+  unfolding reportSettled
+  settled-none is = rw (← is)
+
+  pub settled-refused : {refusal : Refusal} → settlement (works.Refused refusal) lows highs ≡ settled
+      → reported (Refused refusal) lows highs buffer ≡ reportSettled groups units settled buffer
+  unfolding reportSettled
+  settled-refused is = rw (← is)
+
+-- 1 for a buffer under 65,536 bytes
+pub buffer-short : (text lows highs : List ℕ) (scratch : ℕ) (buffer : List ℕ) → length buffer < mostBytes
+    → reported (Refused (refusal 1 0)) lows highs buffer ≡ reportText text lows highs scratch buffer
+unfolding reportText
+buffer-short text lows highs scratch buffer short = rw (lt-leb mostBytes (length buffer) short)
+
+-- what scanning a text answers and leaves
+module _ {text lows₀ highs₀ flat₀ lows highs flat : List ℕ} {answer : Reading}
+    (scanned : Scanned text lows₀ highs₀ flat₀ lows highs flat answer) where
+  -- the job of a text that is read
+  record Found (units groups : ℕ) : Type 0 where
+    pub job : Job
+    pub accepts : readJob text ≡ accepted job
+    pub counts : length (job .lows) ≡ units
+    pub lists : groupsIn groups flat ≡ job .groups
+    pub few : length (job .groups) ≡ groups
+
+  found : {units groups : ℕ} → answer ≡ Read units groups → Found units groups
+  found {units} {groups} reads =
+      let (job, accepts, counts, few) = accepted-by (readJob text) units groups (sym reads ∙ scanned .answer) in
+      record {
+        job = job;
+        accepts = accepts;
+        counts = counts;
+        lists =
+            ap (λ (n : ℕ). groupsIn n flat) (sym few)
+            ∙ ap (groupsIn (length (job .groups))) (scanned .found-flat job accepts)
+            ∙ flatten-groups (job .groups) _;
+        few = few;
+      }
+
+  -- its groups are within the limits
+  pub read-limits : {units groups : ℕ} → answer ≡ Read units groups → WithinLimits flat groups
+  read-limits reads =
+      let behind = found reads in
+      let sound = accepted-sound text (behind .job) (behind .accepts) .built in
+      record {
+        few-groups = omega (arith, behind .few, sound .few-groups);
+        few-memberships = rw (behind .lists) (sound .few-memberships);
+      }
+
+  module _ (tableLows tableHighs : List ℕ) (scratch : ℕ) (buffer : List ℕ) (long : mostBytes ≤ length buffer) where
+    -- it is reported as its groups are
+    pub read-reports : {units groups : ℕ} → answer ≡ Read units groups
+        → reportSettled (groupsIn groups flat) units (settleJob (groupsIn groups flat) units tableLows tableHighs scratch) buffer
+        ≡ reportText text tableLows tableHighs scratch buffer
+    unfolding reportText
+    read-reports {units} {groups} reads =
+        let behind = found reads in
+        rw (
+          read-settles scanned reads tableLows tableHighs scratch,
+          le-leb mostBytes (length buffer) long,
+          behind .lists,
+          behind .accepts,
+          behind .counts,
+        )
+
+    -- a text that is refused leaves the table and the buffer
+    pub refused-reports : (refusal : Refusal) → answer ≡ job.Refused refusal
+        → reported (Refused refusal) tableLows tableHighs buffer ≡ reportText text tableLows tableHighs scratch buffer
+    unfolding reportText
+    refused-reports refusal refuses =
+        rw (le-leb mostBytes (length buffer) long)
+        (settled-refused _ _ buffer (refused-settles scanned refusal refuses tableLows tableHighs scratch))

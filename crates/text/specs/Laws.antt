@@ -1,0 +1,4 @@
+-- The laws, a file for each topic.
+pub mod Parsed
+pub mod Printed
+pub mod Spots
