@@ -9,7 +9,11 @@ use std::process::ExitCode;
 
 fn main() -> ExitCode {
     let words: Vec<String> = std::env::args_os().skip(1).map(|word| word.to_string_lossy().into_owned()).collect();
-    match evening(&words) {
+    let done = match &words[..] {
+        [path, unit, high] => evening(path, unit, high),
+        _ => Err("call it as: evening JOB UNIT HIGH".into()),
+    };
+    match done {
         Ok(()) => ExitCode::SUCCESS,
         Err(error) => {
             eprintln!("evening: {error}");
@@ -19,10 +23,7 @@ fn main() -> ExitCode {
 }
 
 /// Does the work of the program.
-fn evening(words: &[String]) -> Result<(), Box<dyn Error>> {
-    let [path, unit, high] = words else {
-        return Err("call it as: evening JOB UNIT HIGH".into());
-    };
+fn evening(path: &str, unit: &str, high: &str) -> Result<(), Box<dyn Error>> {
     let job = std::fs::read(path).map_err(|error| format!("cannot read a job from '{path}': {error}"))?;
     let mut table = [Range::default(); MOST_UNITS];
     let units = read(&job, &mut table)?.units;
