@@ -19,6 +19,10 @@ greatestShare = 1_000_000
 abbrev pub greatestTotal : ℕ
 greatestTotal = 256_000_000
 
+-- 01: "A job has 1 to 256 units"; so a group names at most as many, and a call on lists takes as many members
+abbrev pub mostUnits : ℕ
+mostUnits = 256
+
 abbrev pub checked : ℕ → Checked
 checked v = pick (leb v greatestShare) (Valid (record { copies = v })) Beyond
 

@@ -8,6 +8,9 @@ pub mod levels;
 pub mod lists;
 pub mod numbers;
 
+// A job has at most so many units, and a group as many members.
+pub const MOST_UNITS: usize = 256;
+
 // A group's total is at most this.
 pub const GREATEST_TOTAL: u64 = 256_000_000;
 
@@ -128,6 +131,12 @@ impl Limits {
         }
         self.allows_spread(figures.spread)
     }
+}
+
+// What is asked of a group's members: a total to share out, within limits.
+pub struct Question {
+    pub total: u64,
+    pub limits: Limits,
 }
 
 // A refusal: its number in the specification, and its place.
