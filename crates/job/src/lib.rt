@@ -5,11 +5,12 @@ ghost use mathlib.Core.List.{_++_};
 ghost use lib.ListN.{length, take, drop};
 ghost use Rattle.groups.specs.Inner.Flat.{mostFlat};
 ghost use Rattle.job.specs.Job.{mostUnits};
-ghost use Rattle.job.specs.Inner.Reading.{Scanned};
+ghost use Rattle.job.specs.Inner.Reading.{GroupsScanned, Scanned};
 ghost use Rattle.job.specs.Reading.{Filled};
 use groups::MOST_FLAT;
 use model::Refusal;
 use model::lists::copy;
+use model::lists::room;
 use reader::scan_lines;
 
 pub mod lines;
@@ -40,6 +41,16 @@ pub fn scan(text: &[u8], lows: &mut [u64], highs: &mut [u64], flat: &mut [u64]) 
         return refused(2);
     }
     scan_lines(text, lows, highs, flat)
+}
+
+// Reads a whole text for its groups alone, to the front of the flat list; its ranges are left aside.
+pub fn scan_groups(text: &[u8], flat: &mut [u64]) -> Reading
+    requires { ⌜ mostFlat ≤ length (now flat) ⌝ }
+    ensures { λ r. ⌜ GroupsScanned (now (text .entry)) (now (flat .entry)) (now (flat .exit)) r ⌝ }
+{
+    let mut lows = room();
+    let mut highs = room();
+    scan(text, &mut lows, &mut highs, flat)
 }
 
 // Copies the first numbers of a list to the front of another.

@@ -31,7 +31,7 @@ returns c =
     let s = c .before .before .before .before .before .before .before .before in
     let a = s .before .before .before .before .before .before .before .before .before .before .args in
     rw (c .enum-told .given .1)
-    (filled-refused (a .text .now) (a .lows .now) (a .highs .now) _ (table-refused (a .text .now) _ _ _ (refused-by (readJob (a .text .now)) _ (sym (c .enum-told .given .1) ∙ s .scan .ensures .answer))))
+    (filled-refused (a .text .now) (a .lows .now) (a .highs .now) _ (table-refused (a .text .now) _ _ _ (refused-by (readJob (a .text .now)) _ (sym (c .enum-told .given .1) ∙ s .scan .ensures .groups .answer))))
 
 refused-requires : tie.Need-refused-requires
 refused-requires c κs = search needs
@@ -50,7 +50,7 @@ returns-2 c =
     let d = c .before .before .before in
     let s = d .before .before .before .before .before .before .before .before in
     let a = s .before .before .before .before .before .before .before .before .before .before .args in
-    let j = accepted-by (readJob (a .text .now)) _ _ (sym (d .reading .given .1) ∙ s .scan .ensures .answer) in
+    let j = accepted-by (readJob (a .text .now)) _ _ (sym (d .reading .given .1) ∙ s .scan .ensures .groups .answer) in
     rw (c .refused .ensures) (filled-refused (a .text .now) (a .lows .now) (a .highs .now) _ (table-short (a .text .now) _ _ (j .0) (j .1) (omega (arith, j .2, c .before .if1 .taken))))
 
 refused-requires-2 : tie.Need-refused-requires-2
@@ -71,7 +71,7 @@ returns-3 c =
     let d = e .before .before in
     let s = d .before .before .before .before .before .before .before .before in
     let a = s .before .before .before .before .before .before .before .before .before .before .args in
-    let j = accepted-by (readJob (a .text .now)) _ _ (sym (d .reading .given .1) ∙ s .scan .ensures .answer) in
+    let j = accepted-by (readJob (a .text .now)) _ _ (sym (d .reading .given .1) ∙ s .scan .ensures .groups .answer) in
     rw (c .refused2 .ensures) (filled-refused (a .text .now) (a .lows .now) (a .highs .now) _ (table-short-highs (a .text .now) _ _ (j .0) (j .1) (omega (arith, j .2, e .if1 .left)) (omega (arith, j .2, c .before .if2 .taken))))
 
 copy-front-requires : tie.Need-copy-front-requires
@@ -80,7 +80,7 @@ copy-front-requires c κs =
     let d = o .before .before .before in
     let s = d .before .before .before .before .before .before .before .before in
     let a = s .before .before .before .before .before .before .before .before .before .before .args in
-    let j = accepted-by (readJob (a .text .now)) _ _ (sym (d .reading .given .1) ∙ s .scan .ensures .answer) in
+    let j = accepted-by (readJob (a .text .now)) _ _ (sym (d .reading .given .1) ∙ s .scan .ensures .groups .answer) in
     (omega (arith, j .2, ap length (s .scan .ensures .found-lows (j .0) (j .1)), length-append (j .0 .lows) (drop (length (j .0 .lows)) (a .least .now))), o .before .if1 .left)
 
 copy-front-requires-2 : tie.Need-copy-front-requires-2
@@ -89,7 +89,7 @@ copy-front-requires-2 c κs =
     let d = o .before .before .before in
     let s = d .before .before .before .before .before .before .before .before in
     let a = s .before .before .before .before .before .before .before .before .before .before .args in
-    let j = accepted-by (readJob (a .text .now)) _ _ (sym (d .reading .given .1) ∙ s .scan .ensures .answer) in
+    let j = accepted-by (readJob (a .text .now)) _ _ (sym (d .reading .given .1) ∙ s .scan .ensures .groups .answer) in
     (omega (arith, j .2, s .scan .ensures .pairs (j .0) (j .1), ap length (s .scan .ensures .found-highs (j .0) (j .1)), length-append (j .0 .highs) (drop (length (j .0 .lows)) (a .greatest .now))), o .if2 .left)
 
 same-length-10 : tie.Need-same-length-10
@@ -115,7 +115,7 @@ returns-4 c =
     let d = o .before .before .before in
     let s = d .before .before .before .before .before .before .before .before in
     let a = s .before .before .before .before .before .before .before .before .before .before .args in
-    let j = accepted-by (readJob (a .text .now)) _ _ (sym (d .reading .given .1) ∙ s .scan .ensures .answer) in
+    let j = accepted-by (readJob (a .text .now)) _ _ (sym (d .reading .given .1) ∙ s .scan .ensures .groups .answer) in
     let fits = table-fits (a .text .now) (length (a .lows .now)) (length (a .highs .now)) (j .0) (j .1) (omega (arith, j .2, o .before .if1 .left)) (omega (arith, j .2, o .if2 .left)) in
     filled-accepted (a .text .now) (a .lows .now) (a .highs .now) _ _ _ _ _ _ (j .0) _ _ fits (j .2) (s .scan .ensures .pairs (j .0) (j .1) ∙ j .2) (j .3) (s .scan .ensures .found-lows (j .0) (j .1)) (s .scan .ensures .found-highs (j .0) (j .1)) (p .copy-front .ensures) (q .copy-front2 .ensures)
 

@@ -16,10 +16,14 @@ use Rattle.job.specs.Reading.{readingOf}
 unfoldable pub countsOf : Progress → Reading
 countsOf p = pick (eqb (p .units) 0) (Refused (refusal 10 0)) (Read (p .units) (p .groups))
 
--- what scanning a text answers, and where it is accepted, what the lists begin with
-pub record Scanned (text lows₀ highs₀ flat₀ lows highs flat : List ℕ) (r : Reading) : Type 0 where
+-- what scanning a text for its groups answers, and where it is accepted, what the flat list begins with
+pub record GroupsScanned (text flat₀ flat : List ℕ) (r : Reading) : Type 0 where
   pub answer : r ≡ readingOf (readJob text)
+  pub found-flat : (job : Job) → readJob text ≡ accepted job → flat ≡ flatten (job .groups) ++ drop (length (flatten (job .groups))) flat₀
+
+-- what scanning a whole text leaves: its ranges as well
+pub record Scanned (text lows₀ highs₀ flat₀ lows highs flat : List ℕ) (r : Reading) : Type 0 where
+  pub groups : GroupsScanned text flat₀ flat r
   pub found-lows : (job : Job) → readJob text ≡ accepted job → lows ≡ job .lows ++ drop (length (job .lows)) lows₀
   pub found-highs : (job : Job) → readJob text ≡ accepted job → highs ≡ job .highs ++ drop (length (job .lows)) highs₀
   pub pairs : (job : Job) → readJob text ≡ accepted job → length (job .highs) ≡ length (job .lows)
-  pub found-flat : (job : Job) → readJob text ≡ accepted job → flat ≡ flatten (job .groups) ++ drop (length (flatten (job .groups))) flat₀

@@ -97,11 +97,10 @@ module _ (text lows₀ highs₀ flat₀ lows highs flat : List ℕ) where
   pub scanned-refused : (r : Refusal) → readJob text ≡ refused r → Scanned text lows₀ highs₀ flat₀ lows highs flat (Refused r)
   scanned-refused r e =
       record {
-        answer = rw e;
+        groups = record { answer = rw e; found-flat = λ job f. absurd (never e f) };
         found-lows = λ job f. absurd (never e f);
         found-highs = λ job f. absurd (never e f);
         pairs = λ job f. absurd (never e f);
-        found-flat = λ job f. absurd (never e f);
       }
 
   -- an accepted text is held in the lists
@@ -109,11 +108,13 @@ module _ (text lows₀ highs₀ flat₀ lows highs flat : List ℕ) where
   scanned-accepted job p e holds =
       let held : (k : Job) → readJob text ≡ accepted k → job ≡ k = λ k f. cc in
       record {
-        answer = rw (e, holds .units, holds .groups);
+        groups = record {
+          answer = rw (e, holds .units, holds .groups);
+          found-flat = λ k f. rw (← held k f, length-flatten (job .groups), holds .groups, holds .taken) (holds .flat);
+        };
         found-lows = λ k f. rw (← held k f, holds .units) (holds .lows);
         found-highs = λ k f. rw (← held k f, holds .units) (holds .highs);
         pairs = λ k f. rw (← held k f, holds .units) (holds .pairs);
-        found-flat = λ k f. rw (← held k f, length-flatten (job .groups), holds .groups, holds .taken) (holds .flat);
       }
 
 -- a line more

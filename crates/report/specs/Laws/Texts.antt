@@ -6,7 +6,7 @@ use native.Mathlib.Omega.{arith}
 use borrow.Author.Tests.{le-leb, lt-leb}
 use lib.ListN.{length, take, drop}
 use Rattle.job.specs.Job.{Job, refusal, mostBytes, readJob, accepted}
-use Rattle.job.specs.Inner.Reading.{Scanned}
+use Rattle.job.specs.Inner.Reading.{GroupsScanned}
 use Rattle.job.specs.Laws.Reading.{accepted-by}
 use Rattle.job.specs.Laws.Sound.{accepted-sound}
 use Rattle.job.specs.declared.Reading.{Reading}
@@ -52,8 +52,7 @@ unfolding reportText
 buffer-short text lows highs scratch buffer short = rw (lt-leb mostBytes (length buffer) short)
 
 -- what scanning a text answers and leaves
-module _ {text lows₀ highs₀ flat₀ lows highs flat : List ℕ} {answer : Reading}
-    (scanned : Scanned text lows₀ highs₀ flat₀ lows highs flat answer) where
+module _ {text flat₀ flat : List ℕ} {answer : Reading} (scanned : GroupsScanned text flat₀ flat answer) where
   -- the job of a text that is read
   record Found (units groups : ℕ) : Type 0 where
     pub job : Job

@@ -13,7 +13,7 @@ use Rattle.job.specs.Laws.Distinct.{below-at}
 use Rattle.groups.specs.Inner.Flat.{flatten, groupsIn}
 use Rattle.groups.specs.Laws.Reading.{flatten-groups, flatten-holds}
 use Rattle.job.specs.Job.{Job, holds, distinct, accepted, readJob}
-use Rattle.job.specs.Inner.Reading.{Scanned}
+use Rattle.job.specs.Inner.Reading.{GroupsScanned}
 use Rattle.job.specs.Laws.Reading.{accepted-by, refused-by}
 use Rattle.job.specs.Sound as job
 use Rattle.job.specs.Laws.Sound.{accepted-sound}
@@ -90,7 +90,7 @@ module _ (text : List ℕ) (found : Job) (reads : readJob text ≡ accepted foun
         rw (starts, ← counts, ← lists, flatten-groups (found .groups) rest, settleText, reads)
 
 -- what scanning a text answers and leaves
-module _ {text lows₀ highs₀ flat₀ lows highs flat : List ℕ} {answer : Reading} (scanned : Scanned text lows₀ highs₀ flat₀ lows highs flat answer) where
+module _ {text flat₀ flat : List ℕ} {answer : Reading} (scanned : GroupsScanned text flat₀ flat answer) where
   -- a text that is read is prepared for settling
   pub read-prepared : {units groups : ℕ} → answer ≡ Read units groups → Prepared flat groups units
   read-prepared {units} {groups} reads =

@@ -65,7 +65,7 @@ returns-2 : tie.Need-returns-2
 returns-2 c =
     let args = c .before .before .before .before .before .before .before .before .before .before .before .before .before .before .before .before .before .before .before .before .before .before .before .before .before .before .before .before .before .before .before .before .before .before .before .before .before .before .before .before .before .before .before .before .before .before .args in
     c .before .before .before .before .before .before .before .before .before .before .before .before .before .before .report-job .ensures
-    ∙ read-reports (c .before .before .before .before .before .before .before .before .before .before .before .before .before .before .before .before .before .before .before .before .before .before .before .before .before .before .before .before .before .before .before .before .scan .ensures) (args .lows .now) (args .highs .now) (length (args .scratch .now)) (args .buffer .now)
+    ∙ read-reports (c .before .before .before .before .before .before .before .before .before .before .before .before .before .before .before .before .before .before .before .before .before .before .before .before .before .before .before .before .before .before .before .before .scan .ensures .groups) (args .lows .now) (args .highs .now) (length (args .scratch .now)) (args .buffer .now)
     (omega (arith, c .before .before .before .before .before .before .before .before .before .before .before .before .before .before .before .before .before .before .before .before .before .before .before .before .before .before .before .before .before .before .before .before .before .before .before .before .if1 .left)) (c .before .before .before .before .before .before .before .before .before .before .before .before .before .before .before .before .before .before .before .before .before .before .before .before .reading .given .1)
 
 same-length-9 : tie.Need-same-length-9
@@ -80,7 +80,7 @@ same-length-11 c = search needs
 returns-3 : tie.Need-returns-3
 returns-3 c =
     let args = c .before .before .before .before .before .before .before .before .before .before .before .before .before .before .before .before .before .before .before .before .before .before .before .args in
-    refused-reports (c .before .before .before .before .before .before .before .before .before .scan .ensures) (args .lows .now) (args .highs .now) (length (args .scratch .now)) (args .buffer .now)
+    refused-reports (c .before .before .before .before .before .before .before .before .before .scan .ensures .groups) (args .lows .now) (args .highs .now) (length (args .scratch .now)) (args .buffer .now)
     (omega (arith, c .before .before .before .before .before .before .before .before .before .before .before .before .before .if1 .left)) _ (c .before .reading2 .given .1)
 
 pub report-by-spec : {M : Type 1} → statement M

@@ -14,7 +14,7 @@ enum-known-reading c = search needs
 
 settle-job-requires : tie.Need-settle-job-requires
 settle-job-requires c κs =
-    read-prepared (c .before .before .before .before .before .before .before .before .before .before .before .before .before .scan .ensures) (c .before .before .before .before .before .reading .given .1)
+    read-prepared (c .before .before .before .before .before .before .before .before .before .before .before .before .before .scan .ensures .groups) (c .before .before .before .before .before .reading .given .1)
 
 enum-known-reading-2 : tie.Need-enum-known-reading-2
 enum-known-reading-2 c = search needs
@@ -42,7 +42,7 @@ returns c =
     let call = c .before .before .before .before .before .before in
     let args = call .before .before .before .before .before .before .before .before .before .before .before .before .before .before .before .before .before .before .before .before .before .before .before .before .before .args in
     call .settle-job .ensures
-    ∙ read-settles (call .before .before .before .before .before .before .before .before .before .before .before .before .before .before .scan .ensures) (call .before .before .before .before .before .before .reading .given .1) (args .lows .now) (args .highs .now) (length (args .scratch .now))
+    ∙ read-settles (call .before .before .before .before .before .before .before .before .before .before .before .before .before .before .scan .ensures .groups) (call .before .before .before .before .before .before .reading .given .1) (args .lows .now) (args .highs .now) (length (args .scratch .now))
 
 same-length-7 : tie.Need-same-length-7
 same-length-7 c = search needs
@@ -56,7 +56,7 @@ same-length-9 c = search needs
 returns-2 : tie.Need-returns-2
 returns-2 c =
     let args = c .before .before .before .before .before .before .before .before .before .before .before .before .before .before .before .before .before .before .before .before .args in
-    refused-settles (c .before .before .before .before .before .before .before .before .before .scan .ensures) _ (c .before .reading2 .given .1) (args .lows .now) (args .highs .now) (length (args .scratch .now))
+    refused-settles (c .before .before .before .before .before .before .before .before .before .scan .ensures .groups) _ (c .before .reading2 .given .1) (args .lows .now) (args .highs .now) (length (args .scratch .now))
 
 pub settle-by-spec : {M : Type 1} → statement M
 settle-by-spec =
