@@ -14,10 +14,11 @@ use Rattle.model.specs.Groups.{Group}
 use Rattle.print.specs.Laws.Written.{Rest, begin, next, done}
 use Rattle.print.specs.Inner.Written.{Wrote, Room}
 use Rattle.works.specs.Laws.Members.{gather-length}
-use Rattle.works.specs.Tables.{Table, size}
+use Rattle.works.specs.Tables.{Table}
 use Rattle.report.specs.Ready.{Levelable, AllLevelable}
 use Rattle.report.specs.Inner.Ready.{Printable, Rooms, Workspace}
 use Rattle.report.specs.Reports.{lineOf, groupLines}
+use Rattle.groups.specs.Memberships.{size}
 
 module _ {table : Table} {group : Group} (levelable : Levelable table group) where
   -- a group that can be levelled has at most 256 members

@@ -9,14 +9,14 @@ use Rattle.group.specs.Sound as one
 use Rattle.group.specs.Laws.Sound as laws
 use Rattle.group.specs.declared.Check.{Check}
 use Rattle.group.specs.declared.Check.the-variants.{Passed, Failed}
-use Rattle.groups.specs.Memberships.{memberships}
+use Rattle.groups.specs.Memberships.{memberships, SoundGroup}
 use Rattle.groups.specs.Inner.Flat.{groupsIn}
 use Rattle.groups.specs.Laws.Reading.{groups-counted}
 use Rattle.job.specs.Job.{mostUnits, mostGroups, mostMemberships}
 use Rattle.model.specs.Groups.{Group}
 use Rattle.model.specs.Laws.Levelled.{within-sum-low, within-sum-high}
 use Rattle.works.specs.Calls.{Settlement, settlement, checkTable, leaving, afterCheck, settleJob}
-use Rattle.works.specs.Consistency.{SoundGroup, Sound, Consistent, PlanIn}
+use Rattle.works.specs.Consistency.{Sound, Consistent, PlanIn}
 use Rattle.works.specs.Laws.Checked.{passed-room, passed-opening}
 use Rattle.works.specs.Laws.Few.{size-few}
 use Rattle.works.specs.Laws.Inside.{widths-sums}

@@ -11,7 +11,7 @@ use Rattle.groups.specs.Inner.Flat.{groupIn}
 use Rattle.groups.specs.Laws.Reading.{size-stored}
 use Rattle.groups.specs.declared.Stored.{Stored}
 use Rattle.works.specs.Laws.Parts.{part}
-use Rattle.works.specs.Tables.{size}
+use Rattle.groups.specs.Memberships.{size}
 use Rattle.report.specs.Laws.Printing.{count-few, rooms}
 use Rattle.report.proofs.group_lines.put_stored_line.Statement.{statement}
 use Rattle.report.proofs.group_lines.put_stored_line.Tie as tie
