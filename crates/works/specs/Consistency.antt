@@ -6,7 +6,7 @@ use lib.ListN.{getD}
 use Rattle.model.specs.Groups.{Group}
 use Rattle.model.specs.Plans.{Plan}
 use Rattle.works.specs.Tables.{Table, Valid, units, lowOf, highOf, Inside, Place, gather, lowsOf, highsOf}
-use Rattle.groups.specs.Memberships.{size, unitOf}
+use Rattle.groups.specs.Memberships.{size, unitOf, SoundGroup}
 
 -- the groups and the opening table that the checks ahead of settling let through
 pub record Sound (groups : List Group) (table : Table) : Type 0 where
