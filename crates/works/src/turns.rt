@@ -4,6 +4,7 @@ use crate::members::scatter;
 use group::ranges::narrow_core;
 use groups::Stored;
 use model::Limits;
+use model::Question;
 use model::Turn;
 ghost use Prim.Native.Nat.{_+_, _≤_};
 ghost use mathlib.Core.Path.{_≡_};
@@ -29,7 +30,7 @@ fn narrow_members(
 {
     gather(lows, members, member_lows);
     gather(highs, members, member_highs);
-    let turn = narrow_core(member_lows, member_highs, total, limits);
+    let turn = narrow_core(member_lows, member_highs, Question { total, limits });
     let Turn::Narrowed = turn else {
         return turn;
     };
