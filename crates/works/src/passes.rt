@@ -6,13 +6,14 @@ use crate::tables::width_of;
 use crate::turns::take_turn;
 use groups::group_at;
 use model::Turn;
+use model::lists::room;
 ghost use Prim.Native.Nat.{_+_, _≤_};
 ghost use mathlib.Core.Path.{_≡_};
 ghost use lib.ListN.{length};
 ghost use Rattle.model.specs.Known.{refusedBy};
 ghost use Rattle.works.specs.Answers.{answerOf, tableAfter};
 ghost use Rattle.groups.specs.Inner.Flat.{groupsIn};
-ghost use Rattle.works.specs.Inner.Ready.{Workspace, Opening};
+ghost use Rattle.works.specs.Inner.Asked.{Workspace, Opening};
 ghost use Rattle.works.specs.Settling.{settle};
 ghost use Rattle.works.specs.Tables.{tableOf};
 
@@ -69,32 +70,25 @@ fn run_passes(
     }
 }
 
-// Settles the table; on a refusal it holds what it held, which the scratch keeps meanwhile.
-fn settle_within(
-    flat: &[u64],
-    groups: u64,
-    lows: &mut [u64],
-    highs: &mut [u64],
-    member_lows: &mut [u64],
-    member_highs: &mut [u64],
-    scratch: &mut [u64],
-) -> Settling
+// Settles the table in member lists of its own; where a group has no plan, the table is left as it then was.
+fn settle_in_place(flat: &[u64], groups: u64, lows: &mut [u64], highs: &mut [u64]) -> Settling
     requires { ⌜ Opening (now flat) groups (tableOf (now lows) (now highs)) ⌝ }
-    requires { ⌜ Workspace (now «member_lows») (now «member_highs») ⌝ }
-    requires { ⌜ length (now lows) + length (now highs) ≤ length (now scratch) ⌝ }
     ensures { λ r. ⌜ r ≡ answerOf (settle (groupsIn groups (now (flat .entry))) (tableOf (now (lows .entry)) (now (highs .entry)))) ⌝ }
-    ensures { λ _. ⌜ tableOf (now (lows .exit)) (now (highs .exit)) ≡ tableAfter (settle (groupsIn groups (now (flat .entry))) (tableOf (now (lows .entry)) (now (highs .entry)))) (tableOf (now (lows .entry)) (now (highs .entry))) ⌝ }
+    ensures { λ _. ⌜ tableOf (now (lows .exit)) (now (highs .exit)) ≡ tableAfter (settle (groupsIn groups (now (flat .entry))) (tableOf (now (lows .entry)) (now (highs .entry)))) (tableOf (now (lows .exit)) (now (highs .exit))) ⌝ }
 {
-    save(lows, highs, scratch);
-    let answer = run_passes(flat, groups, lows, highs, member_lows, member_highs);
-    let Settling::Settled(_) = answer else {
-        restore(scratch, lows, highs);
-        return answer;
-    };
-    answer
+    let mut member_lows = room();
+    let mut member_highs = room();
+    run_passes(
+        flat,
+        groups,
+        lows,
+        highs,
+        &mut member_lows,
+        &mut member_highs,
+    )
 }
 
-// Settles the table of a flat list's groups.
+// Settles the table; on a refusal it holds what it held, which the scratch keeps meanwhile.
 pub fn settle_core(
     flat: &[u64],
     groups: u64,
@@ -107,15 +101,11 @@ pub fn settle_core(
     ensures { λ r. ⌜ r ≡ answerOf (settle (groupsIn groups (now (flat .entry))) (tableOf (now (lows .entry)) (now (highs .entry)))) ⌝ }
     ensures { λ _. ⌜ tableOf (now (lows .exit)) (now (highs .exit)) ≡ tableAfter (settle (groupsIn groups (now (flat .entry))) (tableOf (now (lows .entry)) (now (highs .entry)))) (tableOf (now (lows .entry)) (now (highs .entry))) ⌝ }
 {
-    let mut member_lows = [0u64; 256];
-    let mut member_highs = [0u64; 256];
-    settle_within(
-        flat,
-        groups,
-        lows,
-        highs,
-        &mut member_lows,
-        &mut member_highs,
-        scratch,
-    )
+    save(lows, highs, scratch);
+    let answer = settle_in_place(flat, groups, lows, highs);
+    let Settling::Settled(_) = answer else {
+        restore(scratch, lows, highs);
+        return answer;
+    };
+    answer
 }

@@ -24,7 +24,7 @@ use Rattle.model.specs.Laws.Tests.{both-left, both-right, clash, either-right}
 use Rattle.model.specs.declared.Refusal.{Refusal}
 use Rattle.works.specs.Calls.{settlement, settleJob, settleText}
 use Rattle.works.specs.Consistency.{SoundGroup, Sound}
-use Rattle.works.specs.Inner.Ready.{Prepared}
+use Rattle.works.specs.Inner.Asked.{Prepared}
 use Rattle.works.specs.Tables.{Table, Valid, units}
 use Rattle.works.specs.declared.Settling.the-variants as works
 

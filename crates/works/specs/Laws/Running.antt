@@ -19,7 +19,7 @@ use Rattle.model.specs.Known.{refusedBy}
 use Rattle.model.specs.declared.Turn.{Turn}
 use Rattle.model.specs.declared.Turn.the-variants.{Narrowed, NoPlan}
 use Rattle.works.specs.Consistency.{Sound}
-use Rattle.works.specs.Inner.Ready.{Turning, Opening}
+use Rattle.works.specs.Inner.Asked.{Turning, Opening}
 use Rattle.works.specs.Settling.{Revised, Passed, Outcome, revisedBy, revise, passFrom, pass, settleFrom, settle}
 use Rattle.works.specs.Tables.{Table, sameTable, units, width}
 use Rattle.works.specs.Laws.Inside.{same-table, table-same, widths-sums, widths-same}

@@ -6,15 +6,21 @@ use Rattle.works.specs.Laws.Accepted.{read-prepared, read-settles, refus
 use Rattle.works.proofs.calls.settle_by.Statement.{statement}
 use Rattle.works.proofs.calls.settle_by.Tie as tie
 
-scan-requires : tie.Need-scan-requires
-scan-requires c κs = search needs
+scan-groups-requires : tie.Need-scan-groups-requires
+scan-groups-requires c κs = search needs
 
 enum-known-reading : tie.Need-enum-known-reading
 enum-known-reading c = search needs
 
+-- the start, seen from the text read
+module _ (c : tie.After-scan-groups) where
+  abbrev start : tie.Start
+  start = c .before .before .before .before .before .before .before
+
 settle-job-requires : tie.Need-settle-job-requires
 settle-job-requires c κs =
-    read-prepared (c .before .before .before .before .before .before .before .before .before .before .before .before .before .scan .ensures .groups) (c .before .before .before .before .before .reading .given .1)
+    let told = c .before .before .before .before .before in
+    read-prepared (told .before .before .before .before .scan-groups .ensures) (told .reading .given .1)
 
 enum-known-reading-2 : tie.Need-enum-known-reading-2
 enum-known-reading-2 c = search needs
@@ -31,38 +37,29 @@ same-length-3 c = search needs
 same-length-4 : tie.Need-same-length-4
 same-length-4 c = search needs
 
-same-length-5 : tie.Need-same-length-5
-same-length-5 c = search needs
-
-same-length-6 : tie.Need-same-length-6
-same-length-6 c = search needs
-
 returns : tie.Need-returns
 returns c =
     let call = c .before .before .before .before .before .before in
-    let args = call .before .before .before .before .before .before .before .before .before .before .before .before .before .before .before .before .before .before .before .before .before .before .before .before .before .args in
+    let told = call .before .before .before .before .before .before in
+    let scanned = told .before .before .before .before in
+    let args = start scanned .args in
     call .settle-job .ensures
-    ∙ read-settles (call .before .before .before .before .before .before .before .before .before .before .before .before .before .before .scan .ensures .groups) (call .before .before .before .before .before .before .reading .given .1) (args .lows .now) (args .highs .now) (length (args .scratch .now))
+    ∙ read-settles (scanned .scan-groups .ensures) (told .reading .given .1) (args .lows .now) (args .highs .now) (length (args .scratch .now))
 
-same-length-7 : tie.Need-same-length-7
-same-length-7 c = search needs
-
-same-length-8 : tie.Need-same-length-8
-same-length-8 c = search needs
-
-same-length-9 : tie.Need-same-length-9
-same-length-9 c = search needs
+same-length-5 : tie.Need-same-length-5
+same-length-5 c = search needs
 
 returns-2 : tie.Need-returns-2
 returns-2 c =
-    let args = c .before .before .before .before .before .before .before .before .before .before .before .before .before .before .before .before .before .before .before .before .args in
-    refused-settles (c .before .before .before .before .before .before .before .before .before .scan .ensures .groups) _ (c .before .reading2 .given .1) (args .lows .now) (args .highs .now) (length (args .scratch .now))
+    let scanned = c .before .before .before .before .before in
+    let args = start scanned .args in
+    refused-settles (scanned .scan-groups .ensures) _ (c .before .reading2 .given .1) (args .lows .now) (args .highs .now) (length (args .scratch .now))
 
 pub settle-by-spec : {M : Type 1} → statement M
 settle-by-spec =
     tie.close
     (tie.spec
-    scan-requires
+    scan-groups-requires
     enum-known-reading
     settle-job-requires
     enum-known-reading-2
@@ -70,10 +67,6 @@ settle-by-spec =
     same-length-2
     same-length-3
     same-length-4
-    same-length-5
-    same-length-6
     returns
-    same-length-7
-    same-length-8
-    same-length-9
+    same-length-5
     returns-2)

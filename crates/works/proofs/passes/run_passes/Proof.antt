@@ -11,7 +11,7 @@ use Rattle.works.specs.Laws.Answers.{settled-answer, refused-answer}
 use Rattle.groups.specs.Inner.Flat.{groupsIn, storedAt}
 use Rattle.groups.specs.Laws.Walk.{walk-whole}
 use Rattle.groups.specs.declared.Stored.{Stored}
-use Rattle.works.specs.Inner.Ready.{Workspace}
+use Rattle.works.specs.Inner.Asked.{Workspace}
 use Rattle.works.specs.Settling as settling
 use Rattle.works.specs.Tables.{Table, tableOf, width}
 use Rattle.works.specs.Laws.Running.{Passing, Unsettled, opening-sound, width-small, passing-sound, passing-start, passing-end, next, next-turning, next-stops, next-passes, unsettled-start, pass-refused, pass-settled, pass-falls, pass-goes-on}
