@@ -11,6 +11,7 @@ use model::Checked;
 use model::Figures;
 use model::GREATEST_TOTAL;
 use model::Limits;
+use model::Question;
 use model::Refusal;
 use model::Share;
 use model::Turn;
@@ -98,7 +99,7 @@ pub fn narrow(lows: &mut [u64], highs: &mut [u64], total: u64, limits: Limits) -
     if let Check::Failed(refusal) = check {
         return Narrowing::Refused(refusal);
     }
-    let Turn::NoPlan(number) = narrow_core(lows, highs, total, limits) else {
+    let Turn::NoPlan(number) = narrow_core(lows, highs, Question { total, limits }) else {
         return Narrowing::Narrowed;
     };
     Narrowing::Refused(Refusal { number, place: 0 })

@@ -2,43 +2,45 @@
 use crate::ends::farthest_taken;
 use crate::plans::has_shares;
 use crate::shares::extra;
-use model::Limits;
+use model::Question;
 use model::Turn;
 use model::levels::clamp;
 use model::lists::copy;
 use probe::build::build;
-use probe::probing::Levelled;
 use probe::probing::has_plan;
 use probe::probing::level_on;
 ghost use mathlib.Core.Path.{_≡_};
 ghost use Prim.Native.Nat.{_*_, _≤_};
 ghost use lib.ListN.{length, getD};
-ghost use Rattle.model.specs.Plans.{narrowedLows, narrowedHighs};
-ghost use Rattle.probe.specs.Inner.Probes.{LevelledOn};
+ghost use Rattle.model.specs.Plans.{turnOf, narrowedLows, narrowedHighs};
 ghost use Rattle.group.specs.Sound.{Sound, HasShares};
-ghost use Rattle.group.specs.Inner.Narrowing.{Turned};
-ghost use Rattle.group.specs.Inner.Tabled.{Tabled, HasPlan, Room, Space};
+ghost use Rattle.group.specs.Inner.Narrowing.{afterTurn, Turned};
+ghost use Rattle.group.specs.Inner.Tabled.{Tabled, Room, Space};
 
-// Writes the narrowed lows over starts and the narrowed highs over stops.
-fn narrow_members(
+// Writes the narrowed ranges of a group that has shares over starts and stops, or says that it has no plan.
+fn narrow_on(
     lows: &[u64],
     highs: &[u64],
     table: &[u64],
-    total: u64,
-    limits: Limits,
-    levelled: Levelled,
+    question: Question,
     starts: &mut [u64],
     stops: &mut [u64],
-)
-    requires { ⌜ HasPlan (now lows) (now highs) total limits ⌝ }
-    requires { ⌜ Tabled (now lows) (now highs) total (now table) ⌝ }
-    requires { ⌜ LevelledOn (now lows) (now highs) (now table) total levelled ⌝ }
+) -> Turn
+    requires { ⌜ HasShares (now lows) (now highs) (question .total) ⌝ }
+    requires { ⌜ Tabled (now lows) (now highs) (question .total) (now table) ⌝ }
     requires { ⌜ length (now starts) ≡ length (now lows) ⌝ }
     requires { ⌜ length (now stops) ≡ length (now lows) ⌝ }
-    ensures { λ _. ⌜ now (starts .exit) ≡ narrowedLows (now (lows .entry)) (now (highs .entry)) total limits ⌝ }
-    ensures { λ _. ⌜ now (stops .exit) ≡ narrowedHighs (now (lows .entry)) (now (highs .entry)) total limits ⌝ }
+    ensures { λ r. ⌜ r ≡ turnOf (now (lows .entry)) (now (highs .entry)) (question .total) (question .limits) ⌝ }
+    ensures { λ r. ⌜ now (starts .exit) ≡ afterTurn r (narrowedLows (now (lows .entry)) (now (highs .entry)) (question .total) (question .limits)) (now (starts .entry)) ⌝ }
+    ensures { λ r. ⌜ now (stops .exit) ≡ afterTurn r (narrowedHighs (now (lows .entry)) (now (highs .entry)) (question .total) (question .limits)) (now (stops .entry)) ⌝ }
 {
+    let total = question.total;
+    let limits = question.limits;
+    let levelled = level_on(lows, highs, table, total);
     let row = levelled.row;
+    if !has_plan(lows, highs, table, row, total, limits) {
+        return Turn::NoPlan(12);
+    }
     let v = levelled.level;
     let mut left = levelled.over;
     let mut i: usize = 0;
@@ -52,32 +54,6 @@ fn narrow_members(
         stops[i] = farthest_taken(lows, highs, table, total, limits, i, high, share, row);
         i += 1;
     }
-}
-
-// Narrows a group that has shares in place, over its table, or says that it has no plan. Starts and stops are room to work in.
-fn narrow_on(
-    lows: &mut [u64],
-    highs: &mut [u64],
-    table: &[u64],
-    total: u64,
-    limits: Limits,
-    starts: &mut [u64],
-    stops: &mut [u64],
-) -> Turn
-    requires { ⌜ HasShares (now lows) (now highs) total ⌝ }
-    requires { ⌜ Tabled (now lows) (now highs) total (now table) ⌝ }
-    requires { ⌜ length (now starts) ≡ length (now lows) ⌝ }
-    requires { ⌜ length (now stops) ≡ length (now lows) ⌝ }
-    ensures { λ r. ⌜ Turned (now (lows .entry)) (now (highs .entry)) total limits r (now (lows .exit)) (now (highs .exit)) ⌝ }
-{
-    let levelled = level_on(lows, highs, table, total);
-    let row = levelled.row;
-    if !has_plan(lows, highs, table, row, total, limits) {
-        return Turn::NoPlan(12);
-    }
-    narrow_members(lows, highs, table, total, limits, levelled, starts, stops);
-    copy(starts, lows);
-    copy(stops, highs);
     Turn::Narrowed
 }
 
@@ -86,43 +62,47 @@ fn narrow_on(
 fn narrow_with(
     lows: &mut [u64],
     highs: &mut [u64],
-    total: u64,
-    limits: Limits,
+    question: Question,
     starts: &mut [u64],
     stops: &mut [u64],
     table: &mut [u64],
 ) -> Turn
     requires { ⌜ Sound (now lows) (now highs) ⌝ }
     requires { ⌜ Room (length (now lows)) (now starts) (now stops) (now table) ⌝ }
-    ensures { λ r. ⌜ Turned (now (lows .entry)) (now (highs .entry)) total limits r (now (lows .exit)) (now (highs .exit)) ⌝ }
+    ensures { λ r. ⌜ Turned (now (lows .entry)) (now (highs .entry)) (question .total) (question .limits) r (now (lows .exit)) (now (highs .exit)) ⌝ }
 {
+    let total = question.total;
     if !has_shares(lows, highs, total) {
         return Turn::NoPlan(11);
     }
     build(lows, highs, starts, stops, total, table);
-    narrow_on(lows, highs, table, total, limits, starts, stops)
+    let turn = narrow_on(lows, highs, table, question, starts, stops);
+    if let Turn::NoPlan(number) = turn {
+        return Turn::NoPlan(number);
+    }
+    copy(starts, lows);
+    copy(stops, highs);
+    Turn::Narrowed
 }
 
 // The same with arrays that have room for the group.
 fn narrow_within(
     lows: &mut [u64],
     highs: &mut [u64],
-    total: u64,
-    limits: Limits,
+    question: Question,
     starts: &mut [u64],
     stops: &mut [u64],
     table: &mut [u64],
 ) -> Turn
     requires { ⌜ Sound (now lows) (now highs) ⌝ }
     requires { ⌜ Space (length (now lows)) (now starts) (now stops) (now table) ⌝ }
-    ensures { λ r. ⌜ Turned (now (lows .entry)) (now (highs .entry)) total limits r (now (lows .exit)) (now (highs .exit)) ⌝ }
+    ensures { λ r. ⌜ Turned (now (lows .entry)) (now (highs .entry)) (question .total) (question .limits) r (now (lows .exit)) (now (highs .exit)) ⌝ }
 {
     let count = lows.len();
     narrow_with(
         lows,
         highs,
-        total,
-        limits,
+        question,
         &mut starts[..count],
         &mut stops[..count],
         table,
@@ -130,43 +110,27 @@ fn narrow_within(
 }
 
 // The same for a group of at most 16 members, with small arrays: clearing large ones would be much of its time.
-fn narrow_few(lows: &mut [u64], highs: &mut [u64], total: u64, limits: Limits) -> Turn
+fn narrow_few(lows: &mut [u64], highs: &mut [u64], question: Question) -> Turn
     requires { ⌜ Sound (now lows) (now highs) ⌝ }
     requires { ⌜ length (now lows) ≤ 16 ⌝ }
-    ensures { λ r. ⌜ Turned (now (lows .entry)) (now (highs .entry)) total limits r (now (lows .exit)) (now (highs .exit)) ⌝ }
+    ensures { λ r. ⌜ Turned (now (lows .entry)) (now (highs .entry)) (question .total) (question .limits) r (now (lows .exit)) (now (highs .exit)) ⌝ }
 {
     let mut starts = [0u64; 16];
     let mut stops = [0u64; 16];
     let mut table = [0u64; 198];
-    narrow_within(
-        lows,
-        highs,
-        total,
-        limits,
-        &mut starts,
-        &mut stops,
-        &mut table,
-    )
+    narrow_within(lows, highs, question, &mut starts, &mut stops, &mut table)
 }
 
 // Narrows sound lists in place, or says that there is no plan and leaves them as they were.
-pub fn narrow_core(lows: &mut [u64], highs: &mut [u64], total: u64, limits: Limits) -> Turn
+pub fn narrow_core(lows: &mut [u64], highs: &mut [u64], question: Question) -> Turn
     requires { ⌜ Sound (now lows) (now highs) ⌝ }
-    ensures { λ r. ⌜ Turned (now (lows .entry)) (now (highs .entry)) total limits r (now (lows .exit)) (now (highs .exit)) ⌝ }
+    ensures { λ r. ⌜ Turned (now (lows .entry)) (now (highs .entry)) (question .total) (question .limits) r (now (lows .exit)) (now (highs .exit)) ⌝ }
 {
     if lows.len() <= 16 {
-        return narrow_few(lows, highs, total, limits);
+        return narrow_few(lows, highs, question);
     }
     let mut starts = [0u64; 256];
     let mut stops = [0u64; 256];
     let mut table = [0u64; 3078];
-    narrow_within(
-        lows,
-        highs,
-        total,
-        limits,
-        &mut starts,
-        &mut stops,
-        &mut table,
-    )
+    narrow_within(lows, highs, question, &mut starts, &mut stops, &mut table)
 }

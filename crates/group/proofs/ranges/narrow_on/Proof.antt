@@ -1,129 +1,219 @@
--- 12 without a plan, and else every member is narrowed. Assumes nothing.
+-- 12 without a plan; else the ends of the members before i are written, and the levelled shares of the others are still to come. Assumes nothing.
 use borrow.Author.Needs.{needs}
 use borrow.Author.Tests.{not-true, not-false}
 use native.Mathlib.Omega.{arith}
-use mathlib.Core.Bool.{true}
-use mathlib.Core.Path.{_≡_, refl, sym, ap, _∙_}
-use Prim.Native.Nat.{_*_}
-use lib.ListN.{length}
-use Rattle.model.specs.Plans.{hasShares, turnOf}
-use Rattle.model.specs.Laws.Narrowing.{narrowedLows-length, narrowedHighs-length}
+use mathlib.Core.List.{List}
+use mathlib.Core.Path.{_≡_, refl, sym, _∙_}
+use Prim.Native.Nat.{ℕ, _+_, _-_, _*_, _≤_, min}
+use lib.ListN.{length, getD}
+use Rattle.model.specs.Levels.{topped}
+use Rattle.model.specs.Plans.{hasShares, turnOf, narrowedLow, narrowedHigh, narrowedLows, narrowedHighs}
+use Rattle.model.specs.Laws.Lists.{ranges-at}
+use Rattle.model.specs.Laws.Narrowing.{narrowedLows-length, narrowedHighs-length, narrowedLows-at, narrowedHighs-at}
 use Rattle.model.specs.Laws.Turns.{found-turn}
+use Rattle.model.specs.Laws.Walk.{Ahead, ahead-share, ahead-step}
 use Rattle.probe.specs.Inner.Probes.{InReach}
 use Rattle.probe.specs.Laws.Reaching.{shares-reach}
+use Rattle.group.specs.Laws.Bounds.{share-at-small}
 use Rattle.group.specs.Laws.Sound.{shares-had}
 use Rattle.group.specs.Inner.Tabled.{HasPlan}
+use Rattle.group.specs.Laws.Tabled.{Filled, filled-none, filled-next, filled-all}
+use Rattle.group.specs.Laws.Edges.{Planned}
+use Rattle.group.specs.Laws.Ends.{levelled-planned, to-low, to-high, low-reached, high-reached}
 use Rattle.group.proofs.ranges.narrow_on.Statement.{statement}
 use Rattle.group.proofs.ranges.narrow_on.Tie as tie
 
+abbrev Inv-loop : tie.InvT-loop
+Inv-loop lows highs table starts₀ stops₀ total limits row v left₀ i₀ starts stops left i =
+    (i ≤ length lows)
+    × Filled (length lows) (narrowedLow lows highs total limits) i starts
+    × Filled (length lows) (narrowedHigh lows highs total limits) i stops
+    × Ahead lows highs v left₀ left i
+
+abbrev μ-loop : tie.MeasureT-loop
+μ-loop lows highs table starts₀ stops₀ total limits row v left₀ i₀ starts stops left i = length lows - i
+
 -- the group's own total is in reach
-in-reach : (s : tie.Start) → InReach (s .args .table .now) (2 * length (s .args .lows .now)) 0 0 0 (s .args .total)
+in-reach : (s : tie.Start Inv-loop μ-loop) → InReach (s .args .table .now) (2 * length (s .args .lows .now)) 0 0 0 (s .args .question .total)
 in-reach s = shares-reach (s .pre .1 .0 .sound) (s .pre .1 .0 .held) (s .pre .0 .low) (s .pre .0 .high)
 
-level-on-requires : tie.Need-level-on-requires
+level-on-requires : tie.Need-level-on-requires Inv-loop μ-loop
 level-on-requires c κs =
-    let s = c .before .before .before .before .before .before .before in
+    let s = c .before .before .before .before .before .before in
     (s .pre .1 .0 .sound, (s .pre .1 .0 .held, in-reach s))
 
 -- the start, seen from the level
-abbrev start : tie.After-level-on → tie.Start
-start c = c .before .before .before .before .before .before .before .before
+abbrev start : tie.After-level-on Inv-loop μ-loop → tie.Start Inv-loop μ-loop
+start c = c .before .before .before .before .before .before .before
 
-has-plan-requires : tie.Need-has-plan-requires
+has-plan-requires : tie.Need-has-plan-requires Inv-loop μ-loop
 has-plan-requires c κs =
-    let at = c .before .before in
-    let s = start at in
-    (s .pre .1 .0 .sound, (s .pre .1 .0 .held, (in-reach s, at .level-on .ensures .found)))
+    let s = start c in
+    (s .pre .1 .0 .sound, (s .pre .1 .0 .held, (in-reach s, c .level-on .ensures .found)))
 
-same-length : tie.Need-same-length
-same-length c = search needs
-
-same-length-2 : tie.Need-same-length-2
-same-length-2 c = search needs
-
-returns : tie.Need-returns
+returns : tie.Need-returns Inv-loop μ-loop
 unfolding turnOf
 returns c =
-    let s = start (c .before .before .before .before) in
-    record {
-      answer = rw (shares-had (s .pre .0), ← c .before .has-plan .ensures, not-true (c .before .has-plan .result) (c .if1 .taken));
-      lowsAre = refl;
-      highsAre = refl;
-    }
+    let s = start (c .before .before) in
+    (rw (shares-had (s .pre .0), ← c .before .has-plan .ensures, not-true (c .before .has-plan .result) (c .if1 .taken)), (refl, refl))
 
 -- the group has a plan
-module _ (c : tie.Else1) where
-  abbrev levels : tie.After-level-on
-  levels = c .before .before .before .before
+module _ (c : tie.Else1 Inv-loop μ-loop) where
+  abbrev begun : tie.Start Inv-loop μ-loop
+  begun = start (c .before .before)
 
-  abbrev begun : tie.Start
-  begun = start levels
-
-  planned : HasPlan (begun .args .lows .now) (begun .args .highs .now) (begun .args .total) (begun .args .limits)
-  planned = record {
+  has-one : HasPlan (begun .args .lows .now) (begun .args .highs .now) (begun .args .question .total) (begun .args .question .limits)
+  has-one = record {
     sound = begun .pre .0 .sound;
     found = rw (← c .before .has-plan .ensures) (not-false (c .before .has-plan .result) (c .if1 .left));
   }
 
-narrow-members-requires : tie.Need-narrow-members-requires
-narrow-members-requires c κs =
-    let e = c .before .before .before .before in
-    (planned e, (begun e .pre .1 .0, (levels e .level-on .ensures, (begun e .pre .1 .1 .0, begun e .pre .1 .1 .1))))
+loop-holds : tie.Need-loop-holds Inv-loop μ-loop
+loop-holds c =
+    let s = begun c in
+    (search needs, filled-none (s .pre .1 .1 .0), filled-none (s .pre .1 .1 .1), refl)
 
--- the narrowed lists are as long as the group
-module _ (c : tie.After-narrow-members) where
-  abbrev found : tie.Else1
-  found = c .before .before .before .before .before
+mul-low : tie.Need-mul-low Inv-loop μ-loop
+mul-low c = search needs
 
-  many-lows : length (begun found .args .lows .now) ≡ length (c .narrow-members .last .1 .1 .1 .1 .1 .1 .0)
-  many-lows = sym (ap length (c .narrow-members .ensures .0) ∙ narrowedLows-length _ _ _ _)
+shared-slice-read-low : tie.Need-shared-slice-read-low Inv-loop μ-loop
+shared-slice-read-low c = search needs
 
-  many-highs : length (begun found .args .highs .now) ≡ length (c .narrow-members .last .1 .1 .1 .1 .1 .1 .1 .0)
-  many-highs = begun found .pre .0 .sound .paired ∙ sym (ap length (c .narrow-members .ensures .1) ∙ narrowedHighs-length _ _ _ _)
+mul-high : tie.Need-mul-high Inv-loop μ-loop
+mul-high c = search needs
 
-copy-requires : tie.Need-copy-requires
-copy-requires c κs = many-lows (c .before .before .before .before .before .before)
+shared-slice-read-high : tie.Need-shared-slice-read-high Inv-loop μ-loop
+shared-slice-read-high c = search needs
 
-copy-requires-2 : tie.Need-copy-requires-2
-copy-requires-2 c κs = many-highs (c .before .before .before .before .before .before .before .before .before .before .before)
+extra-requires : tie.Need-extra-requires Inv-loop μ-loop
+extra-requires c κs = search needs
 
-same-length-3 : tie.Need-same-length-3
-same-length-3 c = search needs
+clamp-requires : tie.Need-clamp-requires Inv-loop μ-loop
+clamp-requires c κs =
+    let turn = c .before .before .before .before in
+    ranges-at (begun (turn .before) .pre .0 .sound .ranges) (turn .loop .i) (omega arith) .0
 
-same-length-4 : tie.Need-same-length-4
-same-length-4 c = search needs
+-- the loop's turn and the member's share, seen from the share on
+module _ (c : tie.After-clamp Inv-loop μ-loop) where
+  abbrev turn : tie.At-loop Inv-loop μ-loop
+  turn = c .before .before .before .before .before
 
-same-length-5 : tie.Need-same-length-5
-same-length-5 c = search needs
+  abbrev from : tie.Start Inv-loop μ-loop
+  from = begun (turn .before)
 
-same-length-6 : tie.Need-same-length-6
-same-length-6 c = search needs
+  abbrev lows : List ℕ
+  lows = from .args .lows .now
 
-returns-2 : tie.Need-returns-2
+  abbrev highs : List ℕ
+  highs = from .args .highs .now
+
+  abbrev v : ℕ
+  v = turn .before .before .before .level-on .result .level
+
+  abbrev left : ℕ
+  left = turn .before .before .before .level-on .result .over
+
+  abbrev i : ℕ
+  i = turn .loop .i
+
+  abbrev more : ℕ
+  more = c .before .extra .result
+
+  abbrev share : ℕ
+  share = c .clamp .result + more
+
+  -- the share is the one at the level, which some plan gives the member
+  is-share : share ≡ getD (topped lows highs v left) i 0
+  is-share = sym (ahead-share lows highs i (omega arith) (omega arith) v left (turn .loop .left) (c .clamp .result) more (c .clamp .ensures) (c .before .extra .ensures) (turn .loop .inv .3))
+
+  planned : Planned lows highs (from .args .question .total) (from .args .question .limits) i share
+  planned = rw is-share (levelled-planned (has-one (turn .before)) (turn .before .before .before .level-on .ensures .reached) i (omega arith))
+
+  next : Ahead lows highs v left (turn .loop .left - more) (i + 1)
+  next = ahead-step lows highs i (omega arith) (omega arith) v left (turn .loop .left) (c .clamp .result) more (c .clamp .ensures) (c .before .extra .ensures) (turn .loop .inv .3)
+
+add-share : tie.Need-add-share Inv-loop μ-loop
+add-share c = omega (arith, share-at-small (from c .pre .0 .sound) (i c) (v c) (turn c .loop .left) (c .clamp .result) (more c) (omega arith) (c .clamp .ensures) (c .before .extra .ensures))
+
+sub-left : tie.Need-sub-left Inv-loop μ-loop
+sub-left c = search needs
+
+farthest-taken-requires : tie.Need-farthest-taken-requires Inv-loop μ-loop
+farthest-taken-requires c κs = to-low (planned c) (from c .pre .1 .0)
+
+mul-starts : tie.Need-mul-starts Inv-loop μ-loop
+mul-starts c = search needs
+
+slice-write-starts : tie.Need-slice-write-starts Inv-loop μ-loop
+slice-write-starts c = search needs
+
+farthest-taken-requires-2 : tie.Need-farthest-taken-requires-2 Inv-loop μ-loop
+farthest-taken-requires-2 c κs = to-high (planned (c .before)) (from (c .before) .pre .1 .0)
+
+mul-stops : tie.Need-mul-stops Inv-loop μ-loop
+mul-stops c = omega (arith, from (c .before .before) .pre .0 .sound .few)
+
+slice-write-stops : tie.Need-slice-write-stops Inv-loop μ-loop
+slice-write-stops c = search needs
+
+add-i : tie.Need-add-i Inv-loop μ-loop
+add-i c = omega (arith, from (c .before .before) .pre .0 .sound .few)
+
+loop-less : tie.Need-loop-less Inv-loop μ-loop
+loop-less c = search needs
+
+loop-again : tie.Need-loop-again Inv-loop μ-loop
+loop-again c =
+    let m = c .before .before in (
+      search needs,
+      filled-next (turn m .loop .inv .1) (omega arith) (low-reached (planned m) (c .before .farthest-taken .ensures)),
+      filled-next (turn m .loop .inv .2) (omega arith) (high-reached (planned m) (c .farthest-taken2 .ensures)),
+      next m,
+    )
+
+same-length : tie.Need-same-length Inv-loop μ-loop
+same-length c = c .before .loop .inv .1 .size ∙ sym (begun (c .before .before) .pre .1 .1 .0)
+
+same-length-2 : tie.Need-same-length-2 Inv-loop μ-loop
+same-length-2 c = c .before .loop .inv .2 .size ∙ sym (begun (c .before .before) .pre .1 .1 .1)
+
+returns-2 : tie.Need-returns-2 Inv-loop μ-loop
 returns-2 c =
-    let last = c .before .before in
-    let first = last .before .before .before .before .before in
-    let members = first .before .before .before .before .before .before .before in
-    record {
-      answer = sym (found-turn _ _ _ _ (planned (found members) .found));
-      lowsAre = first .copy .ensures ∙ members .narrow-members .ensures .0;
-      highsAre = last .copy2 .ensures ∙ members .narrow-members .ensures .1;
-    }
+    let inv = c .before .loop .inv in (
+      sym (found-turn _ _ _ _ (has-one (c .before .before) .found)),
+      (
+        filled-all (inv .1) (omega arith) (narrowedLows-length _ _ _ _) (narrowedLows-at _ _ _ _),
+        filled-all (inv .2) (omega arith) (narrowedHighs-length _ _ _ _) (narrowedHighs-at _ _ _ _),
+      ),
+    )
 
 pub narrow-on-spec : {M : Type 1} → statement M
 narrow-on-spec =
     tie.close
     (tie.spec
+    Inv-loop
+    μ-loop
     level-on-requires
     has-plan-requires
+    returns
+    loop-holds
+    mul-low
+    shared-slice-read-low
+    mul-high
+    shared-slice-read-high
+    extra-requires
+    clamp-requires
+    add-share
+    sub-left
+    farthest-taken-requires
+    mul-starts
+    slice-write-starts
+    farthest-taken-requires-2
+    mul-stops
+    slice-write-stops
+    add-i
+    loop-less
+    loop-again
     same-length
     same-length-2
-    returns
-    narrow-members-requires
-    copy-requires
-    copy-requires-2
-    same-length-3
-    same-length-4
-    same-length-5
-    same-length-6
     returns-2)
