@@ -28,7 +28,7 @@ fn narrow_members(
 {
     gather(lows, members, member_lows);
     gather(highs, members, member_highs);
-    let turn = narrow_core(member_lows, member_highs, question.total, question.limits);
+    let turn = narrow_core(member_lows, member_highs, question);
     let Turn::Narrowed = turn else {
         return turn;
     };
