@@ -5,13 +5,20 @@ ghost use Prim.Native.Nat.{_+_, _≤_};
 ghost use mathlib.Core.Path.{_≡_};
 ghost use lib.ListN.{length};
 ghost use lib.Seq.{sets};
-ghost use Rattle.groups.specs.Inner.Flat.{Coded, limitCode, limitOf, headOf, storedAt, Whole};
+ghost use Rattle.groups.specs.Inner.Flat.{mostFlat, Coded, limitCode, limitOf, headOf, storedAt, Whole};
 
 // The numbers in front of a group's members: total, deviation limit, spread limit, number of members.
 pub const HEAD: usize = 4;
 
 // The numbers that the groups of every job take: 64 heads and 4,096 memberships.
 pub const MOST_FLAT: usize = 4352;
+
+// Room for the groups of every job. What it holds is not said, so that no proof above opens its numbers.
+pub fn flat_room() -> [u64; MOST_FLAT]
+    ensures { λ r. ⌜ mostFlat ≤ length r ⌝ }
+{
+    [0; MOST_FLAT]
+}
 
 // A group in the list: its total and limits, where its members begin, how many they are, and where the next group starts.
 pub struct Stored {

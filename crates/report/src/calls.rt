@@ -21,7 +21,7 @@ ghost use Rattle.report.specs.Ready.{Reportable};
 ghost use Rattle.report.specs.Inner.Ready.{WithinLimits, Workspace};
 ghost use Rattle.report.specs.Reports.{reportOf};
 ghost use Rattle.works.specs.Calls.{settleJob};
-ghost use Rattle.works.specs.Inner.Ready.{Prepared};
+ghost use Rattle.works.specs.Inner.Asked.{Prepared};
 ghost use Rattle.works.specs.Tables.{tableOf};
 
 // Writes the report of a settled table at the start of a buffer, and hands back its length.

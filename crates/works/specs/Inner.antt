@@ -1,2 +1,3 @@
 -- What only inner contracts use, a file for each topic.
-pub mod Ready
+pub mod Asked
+pub mod Passes

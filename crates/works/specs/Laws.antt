@@ -1,6 +1,7 @@
 -- The laws of settling, a file for each topic.
 pub mod Members
-pub mod Few
+pub mod Sizes
+pub mod Lengths
 pub mod Writing
 pub mod Parts
 pub mod Inside

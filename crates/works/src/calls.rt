@@ -3,18 +3,17 @@ use crate::Settling;
 use crate::passes::settle_core;
 use group::Check;
 use group::checks::check_lists;
-use groups::MOST_FLAT;
+use groups::flat_room;
 use job::Reading;
-use job::scan;
+use job::scan_groups;
 use model::Refusal;
 ghost use mathlib.Core.Path.{_≡_};
 ghost use Prim.Native.Nat.{_≤_};
 ghost use lib.ListN.{length};
 ghost use Rattle.group.specs.Sound.{greatestCount};
-ghost use Rattle.groups.specs.Inner.Flat.{mostFlat, groupsIn};
-ghost use Rattle.job.specs.Job.{mostUnits};
+ghost use Rattle.groups.specs.Inner.Flat.{groupsIn};
 ghost use Rattle.works.specs.Calls.{settlement, hasRoom, checkTable, settleJob, settleText};
-ghost use Rattle.works.specs.Inner.Ready.{Prepared};
+ghost use Rattle.works.specs.Inner.Asked.{Prepared};
 
 // Whether lists of these lengths are long enough for the units.
 fn has_room(units: usize, lows: usize, highs: usize, scratch: usize) -> bool
@@ -69,23 +68,15 @@ pub fn settle_job(
     }
 }
 
-// Settles a job text by way of lists that hold every job.
-fn settle_by(
-    text: &[u8],
-    lows: &mut [u64],
-    highs: &mut [u64],
-    scratch: &mut [u64],
-    found_lows: &mut [u64],
-    found_highs: &mut [u64],
-    flat: &mut [u64],
-) -> Settling
-    requires { ⌜ (mostUnits ≤ length (now «found_lows»)) × (mostUnits ≤ length (now «found_highs»)) × (mostFlat ≤ length (now flat)) ⌝ }
+// Settles a job text over a table: takes the groups from the text, and opens with the ranges that the table holds.
+pub fn settle(text: &[u8], lows: &mut [u64], highs: &mut [u64], scratch: &mut [u64]) -> Settling
     ensures { λ r. ⌜ settlement r (now (lows .exit)) (now (highs .exit)) ≡ settleText (now (text .entry)) (now (lows .entry)) (now (highs .entry)) (length (now (scratch .entry))) ⌝ }
 {
-    let reading = scan(text, found_lows, found_highs, flat);
+    let mut flat = flat_room();
+    let reading = scan_groups(text, &mut flat);
     match reading {
         Reading::Read { units, groups } => settle_job(
-            flat,
+            &flat,
             groups as u64,
             units,
             lows,
@@ -94,22 +85,4 @@ fn settle_by(
         ),
         Reading::Refused(refusal) => Settling::Refused(refusal),
     }
-}
-
-// Settles a job text over a table: takes the groups from the text, and opens with the ranges that the table holds.
-pub fn settle(text: &[u8], lows: &mut [u64], highs: &mut [u64], scratch: &mut [u64]) -> Settling
-    ensures { λ r. ⌜ settlement r (now (lows .exit)) (now (highs .exit)) ≡ settleText (now (text .entry)) (now (lows .entry)) (now (highs .entry)) (length (now (scratch .entry))) ⌝ }
-{
-    let mut found_lows = [0u64; 256];
-    let mut found_highs = [0u64; 256];
-    let mut flat = [0u64; MOST_FLAT];
-    settle_by(
-        text,
-        lows,
-        highs,
-        scratch,
-        &mut found_lows,
-        &mut found_highs,
-        &mut flat,
-    )
 }

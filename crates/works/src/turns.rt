@@ -3,34 +3,32 @@ use crate::members::gather;
 use crate::members::scatter;
 use group::ranges::narrow_core;
 use groups::Stored;
-use model::Limits;
 use model::Question;
 use model::Turn;
 ghost use Prim.Native.Nat.{_+_, _≤_};
 ghost use mathlib.Core.Path.{_≡_};
 ghost use lib.ListN.{length};
 ghost use Rattle.groups.specs.Inner.Flat.{groupIn};
-ghost use Rattle.works.specs.Inner.Ready.{groupOf, Turning, Room, Workspace};
+ghost use Rattle.works.specs.Inner.Asked.{groupOf, Turning, Room, Workspace};
 ghost use Rattle.works.specs.Settling.{revisedBy, revise};
 ghost use Rattle.works.specs.Tables.{tableOf};
 
 // The turn of a group with these members: gathers their ranges, narrows them and writes them back.
 fn narrow_members(
     members: &[u64],
-    total: u64,
-    limits: Limits,
+    question: Question,
     lows: &mut [u64],
     highs: &mut [u64],
     member_lows: &mut [u64],
     member_highs: &mut [u64],
 ) -> Turn
-    requires { ⌜ Turning (tableOf (now lows) (now highs)) (groupOf total limits (now members)) ⌝ }
+    requires { ⌜ Turning (tableOf (now lows) (now highs)) (groupOf question (now members)) ⌝ }
     requires { ⌜ Room (length (now members)) (now «member_lows») (now «member_highs») ⌝ }
-    ensures { λ r. ⌜ revisedBy r (tableOf (now (lows .exit)) (now (highs .exit))) ≡ revise (tableOf (now (lows .entry)) (now (highs .entry))) (groupOf total limits (now (members .entry))) ⌝ }
+    ensures { λ r. ⌜ revisedBy r (tableOf (now (lows .exit)) (now (highs .exit))) ≡ revise (tableOf (now (lows .entry)) (now (highs .entry))) (groupOf question (now (members .entry))) ⌝ }
 {
     gather(lows, members, member_lows);
     gather(highs, members, member_highs);
-    let turn = narrow_core(member_lows, member_highs, Question { total, limits });
+    let turn = narrow_core(member_lows, member_highs, question);
     let Turn::Narrowed = turn else {
         return turn;
     };
@@ -53,15 +51,17 @@ pub fn take_turn(
     requires { ⌜ Workspace (now «member_lows») (now «member_highs») ⌝ }
     ensures { λ r. ⌜ revisedBy r (tableOf (now (lows .exit)) (now (highs .exit))) ≡ revise (tableOf (now (lows .entry)) (now (highs .entry))) (groupIn (now (flat .entry)) group) ⌝ }
 {
-    let total = group.total;
     let limits = group.limits;
+    let question = Question {
+        total: group.total,
+        limits,
+    };
     let from = group.from;
     let count = group.count;
     let end = from + count;
     narrow_members(
         &flat[from..end],
-        total,
-        limits,
+        question,
         lows,
         highs,
         &mut member_lows[..count],

@@ -18,13 +18,13 @@ use Rattle.model.specs.Laws.Levelled.{within-sum-low, within-sum-high}
 use Rattle.works.specs.Calls.{Settlement, settlement, checkTable, leaving, afterCheck, settleJob}
 use Rattle.works.specs.Consistency.{Sound, Consistent, PlanIn}
 use Rattle.works.specs.Laws.Checked.{passed-room, passed-opening}
-use Rattle.works.specs.Laws.Few.{size-few}
+use Rattle.works.specs.Laws.Sizes.{size-few}
 use Rattle.works.specs.Laws.Inside.{widths-sums}
 use Rattle.works.specs.Laws.Members.{gather-length}
 use Rattle.works.specs.Laws.Passes.{sound-inside}
 use Rattle.works.specs.Laws.Settled.{settled-inside, settled-consistent, passes-bound}
 use Rattle.works.specs.Laws.Turns.{gathered}
-use Rattle.works.specs.Inner.Ready.{Prepared}
+use Rattle.works.specs.Inner.Asked.{Prepared}
 use Rattle.works.specs.Settling.{Outcome, passesOf, settle}
 use Rattle.works.specs.Tables.{Table, tableOf, units, lowsOf, highsOf}
 use Rattle.works.specs.declared.Settling.the-variants as works

@@ -17,7 +17,7 @@ use Rattle.model.specs.Groups.{Group}
 use Rattle.model.specs.declared.Refusal.{Refusal}
 use Rattle.works.specs.Calls.{settlement, settleJob, settleText}
 use Rattle.works.specs.Consistency.{Sound}
-use Rattle.works.specs.Inner.Ready.{Prepared}
+use Rattle.works.specs.Inner.Asked.{Prepared}
 use Rattle.works.specs.Tables.{Table, Valid, units}
 use Rattle.groups.specs.Memberships.{SoundGroup}
 use Rattle.works.specs.declared.Settling.the-variants as works

@@ -19,7 +19,7 @@ use Rattle.model.specs.declared.Refusal.{Refusal}
 use Rattle.works.specs.Answers.{answerOf, tableAfter}
 use Rattle.works.specs.Calls.{settlement, hasRoom, checkTable, settleJob}
 use Rattle.groups.specs.Inner.Flat.{groupsIn}
-use Rattle.works.specs.Inner.Ready.{Opening, Prepared}
+use Rattle.works.specs.Inner.Asked.{Opening, Prepared}
 use Rattle.works.specs.Settling.{settle}
 use Rattle.works.specs.Tables.{tableOf}
 use Rattle.works.specs.declared.Settling.{Settling}

@@ -10,7 +10,8 @@ use Rattle.group.specs.Sound.{greatestCount}
 use Rattle.groups.specs.Inner.Flat.{groupIn}
 use Rattle.groups.specs.Laws.Reading.{size-stored}
 use Rattle.groups.specs.declared.Stored.{Stored}
-use Rattle.works.specs.Inner.Ready.{groupOf, Turning}
+use Rattle.model.specs.declared.Question.{Question}
+use Rattle.works.specs.Inner.Asked.{groupOf, Turning}
 use Rattle.groups.specs.Memberships.{size}
 use Rattle.works.specs.Laws.Parts.{part}
 use Rattle.works.specs.Laws.Turning.{count-few, room}
@@ -51,9 +52,13 @@ module _ (c : tie.After-narrow-members-arg3) where
   few : group .count ≤ greatestCount
   few = omega (arith, counted, count-few (start .pre .0))
 
-  -- and is the one passed on
-  same-group : groupOf (group .total) (group .limits) (take (group .from + group .count - group .from) (drop (group .from) flat)) ≡ groupIn flat group
-  same-group = ap (groupOf (group .total) (group .limits)) (part (group .from) (group .count) flat)
+  -- what is asked of them
+  abbrev question : Question
+  question = record { total = group .total; limits = group .limits }
+
+  -- it is the group passed on
+  same-group : groupOf question (take (group .from + group .count - group .from) (drop (group .from) flat)) ≡ groupIn flat group
+  same-group = ap (groupOf question) (part (group .from) (group .count) flat)
 
 slice-relend-prefix-narrow-members : tie.Need-slice-relend-prefix-narrow-members
 slice-relend-prefix-narrow-members c = omega (arith, few c, start c .pre .1 .1)

@@ -5,15 +5,15 @@ use mathlib.Core.Path.{_≡_}
 use lib.ListN.{length}
 use Rattle.group.specs.Sound.{greatestCount}
 use Rattle.model.specs.Groups.{Group}
-use Rattle.model.specs.declared.Limits.{Limits}
+use Rattle.model.specs.declared.Question.{Question}
 use Rattle.works.specs.Consistency.{Sound}
 use Rattle.groups.specs.Inner.Flat.{groupsIn, Holds}
 use Rattle.works.specs.Tables.{Table, Valid, units}
 use Rattle.groups.specs.Memberships.{SoundGroup}
 
--- a group of this total, these limits and these members
-abbrev pub groupOf : ℕ → Limits → List ℕ → Group
-groupOf total limits members = record { total = total; limits = limits; members = members }
+-- a group of this question and these members
+abbrev pub groupOf : Question → List ℕ → Group
+groupOf question members = record { total = question .total; limits = question .limits; members = members }
 
 -- a group's turn: the table has ranges of at most 256 units, the group is sound
 pub record Turning (table : Table) (group : Group) : Type 0 where
