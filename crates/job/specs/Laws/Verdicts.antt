@@ -27,6 +27,18 @@ unless-zero : (t : Bool) (n r : ℕ) → unless t (suc n) r ≡ 0 → (t ≡ tru
 unless-zero true n r h = (refl, h)
 unless-zero false n r h = absurd (omega arith)
 
+-- the first that is one is the verdict
+pub first-some : {a : ℕ} (b : ℕ) → (a ≡ 0 → ⊥) → a ≡ first a b
+first-some {a} b n = by-number a n
+  where
+    by-number : (a : ℕ) → (a ≡ 0 → ⊥) → a ≡ first a b
+    by-number zero n = absurd (n refl)
+    by-number (suc a) n = refl
+
+-- where it is none, the other is
+pub first-none : {a v b : ℕ} → a ≡ 0 → v ≡ b → v ≡ first a b
+first-none z e = rw z e
+
 -- neither refuses
 pub first-zero : (a b : ℕ) → first a b ≡ 0 → (a ≡ 0) × (b ≡ 0)
 first-zero zero b h = (refl, h)
