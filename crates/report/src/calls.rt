@@ -108,7 +108,7 @@ fn report_job(
     put_answer(buffer, answer, flat, counts, lows, highs)
 }
 
-// Reports a job text by way of a list that holds the groups of every job.
+// Reports a job text into a buffer that holds every report, by way of a list that holds the groups of every job.
 fn report_by(
     text: &[u8],
     lows: &mut [u64],
@@ -118,14 +118,9 @@ fn report_by(
     flat: &mut [u64],
 ) -> Reporting
     requires { ⌜ mostFlat ≤ length (now flat) ⌝ }
+    requires { ⌜ mostBytes ≤ length (now buffer) ⌝ }
     ensures { λ r. ⌜ reported r (now (lows .exit)) (now (highs .exit)) (now (buffer .exit)) ≡ reportText (now (text .entry)) (now (lows .entry)) (now (highs .entry)) (length (now (scratch .entry))) (now (buffer .entry)) ⌝ }
 {
-    if buffer.len() < MOST_BYTES {
-        return Reporting::Refused(Refusal {
-            number: 1,
-            place: 0,
-        });
-    }
     let reading = scan_groups(text, flat);
     match reading {
         Reading::Read { units, groups } => {
@@ -149,6 +144,12 @@ pub fn report(
 ) -> Reporting
     ensures { λ r. ⌜ reported r (now (lows .exit)) (now (highs .exit)) (now (buffer .exit)) ≡ reportText (now (text .entry)) (now (lows .entry)) (now (highs .entry)) (length (now (scratch .entry))) (now (buffer .entry)) ⌝ }
 {
+    if buffer.len() < MOST_BYTES {
+        return Reporting::Refused(Refusal {
+            number: 1,
+            place: 0,
+        });
+    }
     let mut flat = [0u64; MOST_FLAT];
     report_by(text, lows, highs, scratch, buffer, &mut flat)
 }

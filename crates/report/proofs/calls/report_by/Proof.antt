@@ -1,30 +1,18 @@
--- The buffer is long enough, and a text that is read is reported as its groups are; one that is refused leaves all lists. Assumes nothing.
+-- A text that is read is reported as its groups are; one that is refused leaves all lists. Assumes nothing.
 use borrow.Author.Needs.{needs}
 use mathlib.Core.Path.{_∙_}
-use native.Mathlib.Omega.{arith}
-use Prim.Native.Nat.{_≤_}
 use lib.ListN.{length}
-use Rattle.job.specs.Job.{mostBytes}
 use Rattle.works.specs.Laws.Accepted.{read-prepared}
-use Rattle.report.specs.Laws.Texts.{buffer-short, read-limits, read-reports, refused-reports}
+use Rattle.report.specs.Laws.Texts.{read-limits, read-reports, refused-reports}
 use Rattle.report.proofs.calls.report_by.Statement.{statement}
 use Rattle.report.proofs.calls.report_by.Tie as tie
 
-returns : tie.Need-returns
-returns c =
-    let args = c .before .before .before .before .before .before .before .args in
-    buffer-short (args .text .now) (args .lows .now) (args .highs .now) (length (args .scratch .now)) (args .buffer .now) (c .if1 .taken)
+-- where the text is scanned, from where it starts
+abbrev start : tie.After-scan-groups → tie.Start
+start c = c .before .before .before .before .before .before .before .before
 
 scan-groups-requires : tie.Need-scan-groups-requires
 scan-groups-requires c κs = search needs
-
--- once the text is scanned
-module _ (c : tie.After-scan-groups) where
-  abbrev start : tie.Start
-  start = c .before .before .before .before .before .before .before .before .before
-
-  long : mostBytes ≤ length (start .args .buffer .now)
-  long = c .before .before .if1 .left
 
 enum-known-reading : tie.Need-enum-known-reading
 enum-known-reading c = search needs
@@ -34,7 +22,7 @@ report-job-requires c κs =
     let told = c .before .before .before .before .before .before in
     let scanned = told .before .before .before .before in
     let reads = told .reading .given .1 in
-    (read-prepared (scanned .scan-groups .ensures) reads, (read-limits (scanned .scan-groups .ensures) reads, long scanned))
+    (read-prepared (scanned .scan-groups .ensures) reads, (read-limits (scanned .scan-groups .ensures) reads, start scanned .pre .1))
 
 enum-known-reading-2 : tie.Need-enum-known-reading-2
 enum-known-reading-2 c = search needs
@@ -54,31 +42,30 @@ same-length-4 c = search needs
 same-length-5 : tie.Need-same-length-5
 same-length-5 c = search needs
 
-returns-2 : tie.Need-returns-2
-returns-2 c =
+returns : tie.Need-returns
+returns c =
     let call = c .before .before .before .before .before .before .before .before in
     let told = call .before .before .before .before .before .before .before in
     let scanned = told .before .before .before .before in
     let args = start scanned .args in
     call .report-job .ensures
-    ∙ read-reports (scanned .scan-groups .ensures) (args .lows .now) (args .highs .now) (length (args .scratch .now)) (args .buffer .now) (long scanned)
+    ∙ read-reports (scanned .scan-groups .ensures) (args .lows .now) (args .highs .now) (length (args .scratch .now)) (args .buffer .now) (start scanned .pre .1)
     (told .reading .given .1)
 
 same-length-6 : tie.Need-same-length-6
 same-length-6 c = search needs
 
-returns-3 : tie.Need-returns-3
-returns-3 c =
+returns-2 : tie.Need-returns-2
+returns-2 c =
     let scanned = c .before .before .before .before .before in
     let args = start scanned .args in
-    refused-reports (scanned .scan-groups .ensures) (args .lows .now) (args .highs .now) (length (args .scratch .now)) (args .buffer .now) (long scanned) _
-    (c .before .reading2 .given .1)
+    refused-reports (scanned .scan-groups .ensures) (args .lows .now) (args .highs .now) (length (args .scratch .now)) (args .buffer .now) (start scanned .pre .1)
+    _ (c .before .reading2 .given .1)
 
 pub report-by-spec : {M : Type 1} → statement M
 report-by-spec =
     tie.close
     (tie.spec
-    returns
     scan-groups-requires
     enum-known-reading
     report-job-requires
@@ -88,6 +75,6 @@ report-by-spec =
     same-length-3
     same-length-4
     same-length-5
-    returns-2
+    returns
     same-length-6
-    returns-3)
+    returns-2)
