@@ -1,24 +1,31 @@
 // The ends of a member's range: how far from its share plans give it values.
-use model::Limits;
+use model::Question;
 use model::numbers::apart;
 use probe::pins::into_reach;
 use probe::pins::last_within;
 use probe::pins::value_at;
-use probe::probing::probe;
+use probe::probing::Spot;
 use probe::probing::taken_at;
 use probe::rows::read_row;
-ghost use mathlib.Core.Bool.{false};
 ghost use mathlib.Core.Path.{_≡_};
-ghost use Prim.Native.Nat.{_*_, _≤_, _<_, min};
-ghost use lib.ListN.{length, getD};
+ghost use Prim.Native.Nat.{_≤_, min};
 ghost use Rattle.model.specs.Figures.{apart};
 ghost use Rattle.model.specs.Plans.{taken};
-ghost use Rattle.probe.specs.Inner.Probes.{InReach};
 ghost use Rattle.group.specs.Inner.Edges.{Edge, Reach, Approach};
-ghost use Rattle.group.specs.Inner.Flanks.{Flanked, OneRow, ToOneRow};
+ghost use Rattle.group.specs.Inner.Flanks.{Flanking, OneRow, ToOneRow, flanksOf};
 
-// Two values of one row, of which some plan gives a member the inner one and none the outer one.
+// Two values of a member, of which no plan gives it the outer one and some plan the inner one, and the rows on either side of theirs.
+struct Flanks {
+    member: usize,
+    outer: u64,
+    inner: u64,
+    far: usize,
+    near: usize,
+}
+
+// Two such values of one row.
 struct Gap {
+    member: usize,
     outer: u64,
     inner: u64,
     row: usize,
@@ -44,159 +51,106 @@ fn earlier(a: usize, b: usize) -> usize
     b
 }
 
-// Brings outside, which no plan gives member i, and inside, which some plan does, to values of one row: by bisection over
-// the rows at which the others can be.
-fn to_one_row(
-    lows: &[u64],
-    highs: &[u64],
-    table: &[u64],
-    total: u64,
-    limits: Limits,
-    i: usize,
-    outside: u64,
-    inside: u64,
-    outer_row: usize,
-    inner_row: usize,
-) -> Gap
-    requires { ⌜ Approach (now lows) (now highs) (now table) total limits i outside inside ⌝ }
-    requires { ⌜ InReach (now table) (2 * length (now lows)) (getD (now lows) i 0) (getD (now highs) i 0) outside total ⌝ }
-    requires { ⌜ taken (now lows) (now highs) total limits i outside ≡ false ⌝ }
-    requires { ⌜ Flanked (now table) (2 * length (now lows)) (getD (now lows) i 0) (getD (now highs) i 0) total outside inside «outer_row» «inner_row» ⌝ }
-    ensures { λ r. ⌜ ToOneRow (now (lows .entry)) (now (highs .entry)) (now (table .entry)) total limits i outside inside r ⌝ }
+// A member's values with the rows on either side of theirs: the row of the lesser value moved on by one.
+fn flanks_of(member: usize, outer: u64, inner: u64, far: usize, near: usize) -> Flanks
+    requires { ⌜ (far ≤ 512) × (near ≤ 512) ⌝ }
+    ensures { λ r. ⌜ r ≡ flanksOf member outer inner far near ⌝ }
 {
-    let low = lows[i];
-    let high = highs[i];
-    let mut outer = outside;
-    let mut inner = inside;
-    let mut far = outer_row;
-    let mut near = inner_row;
+    if outer < inner {
+        return Flanks {
+            member,
+            outer,
+            inner,
+            far: far + 1,
+            near,
+        };
+    }
+    Flanks {
+        member,
+        outer,
+        inner,
+        far,
+        near: near + 1,
+    }
+}
+
+// Brings the two values to one row: by bisection over the rows at which the others can be.
+fn to_one_row(lows: &[u64], highs: &[u64], table: &[u64], question: Question, flanks: Flanks) -> Gap
+    requires { ⌜ Flanking (now lows) (now highs) (now table) (question .total) (question .limits) flanks ⌝ }
+    ensures { λ r. ⌜ ToOneRow (now (lows .entry)) (now (highs .entry)) (now (table .entry)) (question .total) (question .limits) flanks r ⌝ }
+{
+    let member = flanks.member;
+    let low = lows[member];
+    let high = highs[member];
+    let mut outer = flanks.outer;
+    let mut inner = flanks.inner;
+    let mut far = flanks.far;
+    let mut near = flanks.near;
     while 1 < rows_apart(far, near) {
-        let k = (far + near) / 2;
-        let row = read_row(table, k);
-        let v = value_at(row, low, high, total);
-        if taken_at(lows, highs, table, total, limits, i, v, k) {
-            inner = v;
-            near = k;
+        let row = (far + near) / 2;
+        let value = value_at(read_row(table, row), low, high, question.total);
+        if taken_at(lows, highs, table, question, Spot { member, value, row }) {
+            inner = value;
+            near = row;
         } else {
-            outer = v;
-            far = k;
+            outer = value;
+            far = row;
         }
     }
     let row = earlier(far, near);
-    Gap { outer, inner, row }
+    Gap {
+        member,
+        outer,
+        inner,
+        row,
+    }
 }
 
-// The value nearest to the outer one of a gap that some plan gives member i: by bisection over the values between.
-fn edge(
-    lows: &[u64],
-    highs: &[u64],
-    table: &[u64],
-    total: u64,
-    limits: Limits,
-    i: usize,
-    gap: Gap,
-) -> u64
-    requires { ⌜ OneRow (now lows) (now highs) (now table) total limits i gap ⌝ }
-    ensures { λ r. ⌜ Edge (taken (now (lows .entry)) (now (highs .entry)) total limits i) (gap .outer) (gap .inner) r ⌝ }
+// The value nearest to the outer one of a gap that some plan gives the member: by bisection over the values between.
+fn edge(lows: &[u64], highs: &[u64], table: &[u64], question: Question, gap: Gap) -> u64
+    requires { ⌜ OneRow (now lows) (now highs) (now table) (question .total) (question .limits) gap ⌝ }
+    ensures { λ r. ⌜ Edge (taken (now (lows .entry)) (now (highs .entry)) (question .total) (question .limits) (gap .member)) (gap .outer) (gap .inner) r ⌝ }
 {
+    let member = gap.member;
     let row = gap.row;
     let mut outer = gap.outer;
     let mut inner = gap.inner;
     while 1 < apart(outer, inner) {
-        let middle = (outer + inner) / 2;
-        if taken_at(lows, highs, table, total, limits, i, middle, row) {
-            inner = middle;
+        let value = (outer + inner) / 2;
+        if taken_at(lows, highs, table, question, Spot { member, value, row }) {
+            inner = value;
         } else {
-            outer = middle;
+            outer = value;
         }
     }
     inner
 }
 
-// The value nearest to outside that some plan gives member i, on the way from inside, which some plan does.
-fn edge_between(
-    lows: &[u64],
-    highs: &[u64],
-    table: &[u64],
-    total: u64,
-    limits: Limits,
-    i: usize,
-    outside: u64,
-    inside: u64,
-    outer_row: usize,
-    inner_row: usize,
-) -> u64
-    requires { ⌜ Approach (now lows) (now highs) (now table) total limits i outside inside ⌝ }
-    requires { ⌜ InReach (now table) (2 * length (now lows)) (getD (now lows) i 0) (getD (now highs) i 0) outside total ⌝ }
-    requires { ⌜ taken (now lows) (now highs) total limits i outside ≡ false ⌝ }
-    requires { ⌜ Flanked (now table) (2 * length (now lows)) (getD (now lows) i 0) (getD (now highs) i 0) total outside inside «outer_row» «inner_row» ⌝ }
-    ensures { λ r. ⌜ Edge (taken (now (lows .entry)) (now (highs .entry)) total limits i) outside inside r ⌝ }
-{
-    let gap = to_one_row(
-        lows,
-        highs,
-        table,
-        total,
-        limits,
-        i,
-        outside,
-        inside,
-        outer_row,
-        inner_row,
-    );
-    edge(lows, highs, table, total, limits, i, gap)
-}
-
-// How far from a share, which some plan gives member i, to an end of its range plans give it values; near is a row to
-// look at first.
+// How far from a share, which some plan gives its member, to an end of the member's range plans give it values; the
+// share's row is one to look at first.
 pub(crate) fn farthest_taken(
     lows: &[u64],
     highs: &[u64],
     table: &[u64],
-    total: u64,
-    limits: Limits,
-    i: usize,
+    question: Question,
+    share: Spot,
     end: u64,
-    share: u64,
-    near: usize,
 ) -> u64
-    requires { ⌜ Approach (now lows) (now highs) (now table) total limits i end share ⌝ }
-    ensures { λ r. ⌜ Reach (taken (now (lows .entry)) (now (highs .entry)) total limits i) end share r ⌝ }
+    requires { ⌜ Approach (now lows) (now highs) (now table) (question .total) (question .limits) (share .member) end (share .value) ⌝ }
+    ensures { λ r. ⌜ Reach (taken (now (lows .entry)) (now (highs .entry)) (question .total) (question .limits) (share .member)) end (share .value) r ⌝ }
 {
-    let low = lows[i];
-    let high = highs[i];
+    let member = share.member;
+    let low = lows[member];
+    let high = highs[member];
+    let total = question.total;
     let last = 2 * lows.len();
-    let nearest = into_reach(table, last, low, high, end, total);
-    let probed = probe(lows, highs, table, total, limits, i, nearest, near);
-    if probed.taken {
-        return nearest;
+    let value = into_reach(table, last, low, high, end, total);
+    let row = last_within(table, last, low, high, value, total, share.row);
+    if taken_at(lows, highs, table, question, Spot { member, value, row }) {
+        return value;
     }
-    let far = probed.row;
-    let own = last_within(table, last, low, high, share, total, near);
-    if nearest < share {
-        return edge_between(
-            lows,
-            highs,
-            table,
-            total,
-            limits,
-            i,
-            nearest,
-            share,
-            far + 1,
-            own,
-        );
-    }
-    edge_between(
-        lows,
-        highs,
-        table,
-        total,
-        limits,
-        i,
-        nearest,
-        share,
-        far,
-        own + 1,
-    )
+    let own = last_within(table, last, low, high, share.value, total, share.row);
+    let around = flanks_of(member, value, share.value, row, own);
+    let gap = to_one_row(lows, highs, table, question, around);
+    edge(lows, highs, table, question, gap)
 }

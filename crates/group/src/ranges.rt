@@ -7,6 +7,7 @@ use model::Turn;
 use model::levels::clamp;
 use model::lists::copy;
 use probe::build::build;
+use probe::probing::Spot;
 use probe::probing::has_plan;
 use probe::probing::level_on;
 ghost use mathlib.Core.Path.{_≡_};
@@ -34,11 +35,9 @@ fn narrow_on(
     ensures { λ r. ⌜ now (starts .exit) ≡ afterTurn r (narrowedLows (now (lows .entry)) (now (highs .entry)) (question .total) (question .limits)) (now (starts .entry)) ⌝ }
     ensures { λ r. ⌜ now (stops .exit) ≡ afterTurn r (narrowedHighs (now (lows .entry)) (now (highs .entry)) (question .total) (question .limits)) (now (stops .entry)) ⌝ }
 {
-    let total = question.total;
-    let limits = question.limits;
-    let levelled = level_on(lows, highs, table, total);
+    let levelled = level_on(lows, highs, table, question.total);
     let row = levelled.row;
-    if !has_plan(lows, highs, table, row, total, limits) {
+    if !has_plan(lows, highs, table, question, row) {
         return Turn::NoPlan(12);
     }
     let v = levelled.level;
@@ -48,10 +47,15 @@ fn narrow_on(
         let low = lows[i];
         let high = highs[i];
         let more = extra(low, high, v, left);
-        let share = clamp(low, high, v) + more;
+        let value = clamp(low, high, v) + more;
+        let share = Spot {
+            member: i,
+            value,
+            row,
+        };
         left -= more;
-        starts[i] = farthest_taken(lows, highs, table, total, limits, i, low, share, row);
-        stops[i] = farthest_taken(lows, highs, table, total, limits, i, high, share, row);
+        starts[i] = farthest_taken(lows, highs, table, question, share, low);
+        stops[i] = farthest_taken(lows, highs, table, question, share, high);
         i += 1;
     }
     Turn::Narrowed

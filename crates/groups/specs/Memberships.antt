@@ -1,10 +1,24 @@
--- How many members the groups of a job have. Assumes nothing.
-use Prim.Native.Nat.{ℕ, _+_}
+-- The members of groups. Assumes nothing.
+use Prim.Native.Nat.{ℕ, _+_, _<_}
 use mathlib.Core.List.{List, [], _∷_}
-use lib.ListN.{length}
+use mathlib.Core.Path.{_≡_}
+use lib.ListN.{length, getD}
 use Rattle.model.specs.Groups.{Group}
 
 -- 01: memberships, "the sum of the groups' n"
 unfoldable pub memberships : List Group → ℕ
 memberships [] = 0
 memberships (g ∷ gs) = length (g .members) + memberships gs
+
+-- the number of members, and the unit of member k, counted from 0
+abbrev pub size : Group → ℕ
+size group = length (group .members)
+
+abbrev pub unitOf : Group → ℕ → ℕ
+unitOf group k = getD (group .members) k 0
+
+-- 01: "A group names n different units", at least one, each one of the job's
+pub record SoundGroup (count : ℕ) (group : Group) : Type 0 where
+  pub some : 0 < size group
+  pub below : (k : ℕ) → k < size group → unitOf group k < count
+  pub different : (j k : ℕ) → j < size group → k < size group → unitOf group j ≡ unitOf group k → j ≡ k

@@ -1,8 +1,9 @@
 -- The laws, a file for each topic.
 pub mod Accepting
 pub mod Distinct
-pub mod Held
+pub mod HeldAlike
 pub mod Orders
+pub mod Placed
 pub mod Reading
 pub mod SameJob
 pub mod Scanning

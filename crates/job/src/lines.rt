@@ -8,7 +8,7 @@ ghost use Rattle.job.specs.Job.{mostBytes, named, memberOf};
 ghost use Rattle.job.specs.Inner.Tally.{tallied, groupTally};
 ghost use Rattle.text.specs.Inner.Numbers.{held};
 ghost use Rattle.job.specs.Form.{space, numberAs, unitAs, limitAs, headAs, membersAs, groupAs};
-ghost use Rattle.job.specs.Inner.Seen.{unitSeen, limitSeen, headSeen, membersSeen, groupSeen};
+ghost use Rattle.job.specs.Inner.LinesRead.{unitSeen, limitSeen, headSeen, membersSeen, groupSeen};
 ghost use Rattle.text.specs.Inner.Spots.{counted};
 use model::Limit;
 use model::Limits;

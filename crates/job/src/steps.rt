@@ -4,12 +4,14 @@ ghost use Prim.Native.Nat.{_≤_};
 ghost use lib.ListN.{length};
 ghost use Rattle.groups.specs.Inner.Flat.{mostFlat};
 ghost use Rattle.job.specs.Job.{mostBytes, mostUnits, refusal, unitVerdict, headVerdict, distinct};
+ghost use Rattle.job.specs.Inner.Placed.{Placed, groupNumber};
 ghost use Rattle.job.specs.Below.{AllBelow};
 ghost use Rattle.job.specs.Inner.Distinct.{freshBy};
 ghost use Rattle.job.specs.Inner.Steps.{Bounded, UnitTaken, GroupTaken, LineTaken};
 ghost use Rattle.job.specs.Inner.Taking.{placeAt};
 use crate::lines::GroupRead;
 use crate::lines::Head;
+use crate::lines::Members;
 use crate::lines::UnitRead;
 use crate::lines::group_line;
 use crate::lines::unit_line;
@@ -115,6 +117,26 @@ fn are_distinct(members: &[u64]) -> bool
     fresh_by(members, &mut marks)
 }
 
+// The refusal of a group line whose members stand in the flat list from a place on, 0 where there is none.
+fn group_verdict(progress: Progress, head: Head, members: Members, flat: &[u64], from: usize) -> u64
+    requires { ⌜ Bounded progress × Placed progress head members (now flat) from ⌝ }
+    ensures { λ r. ⌜ r ≡ groupNumber progress head members (now (flat .entry)) from ⌝ }
+{
+    let count = members.count;
+    let number = head_verdict(progress, head, count);
+    if number != 0 {
+        return number;
+    }
+    let within = members.within;
+    if !within {
+        return 8;
+    }
+    if !are_distinct(&flat[from..from + count]) {
+        return 9;
+    }
+    0
+}
+
 // The refusal of the line after what was read.
 fn refuse(progress: Progress, number: u64) -> Taken
     requires { ⌜ Bounded progress ⌝ }
@@ -164,18 +186,11 @@ fn take_group(text: &[u8], spot: Spot, progress: Progress, flat: &mut [u64]) -> 
     let GroupRead::Is(head, members) = group_line(text, spot, flat, from, units) else {
         return refuse(progress, 3);
     };
-    let count = members.count;
-    let number = head_verdict(progress, head, count);
+    let number = group_verdict(progress, head, members, flat, from);
     if number != 0 {
         return refuse(progress, number);
     }
-    let within = members.within;
-    if !within {
-        return refuse(progress, 8);
-    }
-    if !are_distinct(&flat[from..from + count]) {
-        return refuse(progress, 9);
-    }
+    let count = members.count;
     let total = head.total;
     let limits = head.limits;
     put_group(flat, at, total, limits, count);

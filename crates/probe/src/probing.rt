@@ -6,18 +6,17 @@ use crate::pins::pinned_total;
 use crate::pins::reach_from;
 use crate::rows::read_row;
 use model::Figures;
-use model::Limits;
+use model::Question;
 use model::Spread;
 use model::levels::clamp;
 ghost use mathlib.Core.Path.{_≡_};
-ghost use Prim.Native.Nat.{_*_, _≤_, _<_};
-ghost use lib.ListN.{length, getD};
-ghost use Rattle.model.specs.Shares.{greatestShare};
+ghost use Prim.Native.Nat.{_*_, _≤_};
+ghost use lib.ListN.{length};
 ghost use Rattle.model.specs.Plans.{hasPlan, taken};
 ghost use Rattle.probe.specs.Inner.Rows.{rowAt};
 ghost use Rattle.probe.specs.Inner.Tables.{Sound, Table};
 ghost use Rattle.probe.specs.Inner.Probes.{Found, InReach, LevelledOn, pinnedTotal};
-ghost use Rattle.probe.specs.Inner.Verdicts.{Asked, PinnedFigures};
+ghost use Rattle.probe.specs.Inner.Verdicts.{Asked, PinnedFigures, Spotted};
 
 // The figures of the pinned group's levelled shares, from the row below its level.
 fn pinned_figures(
@@ -50,60 +49,31 @@ fn pinned_figures(
     }
 }
 
-// Whether the group with member i pinned to v, which the others can make up for, has a plan, from the row below its level.
-pub fn taken_at(
-    lows: &[u64],
-    highs: &[u64],
-    table: &[u64],
-    total: u64,
-    limits: Limits,
-    i: usize,
-    v: u64,
-    row: usize,
-) -> bool
-    requires { ⌜ Sound (now lows) (now highs) total ⌝ }
-    requires { ⌜ Table (now lows) (now highs) total (now table) ⌝ }
-    requires { ⌜ (i < length (now lows)) × (v ≤ greatestShare) ⌝ }
-    requires { ⌜ InReach (now table) (2 * length (now lows)) (getD (now lows) i 0) (getD (now highs) i 0) v total ⌝ }
-    requires { ⌜ Found (now table) (2 * length (now lows)) (getD (now lows) i 0) (getD (now highs) i 0) v total row ⌝ }
-    ensures { λ r. ⌜ r ≡ taken (now (lows .entry)) (now (highs .entry)) total limits i v ⌝ }
-{
-    let figures = pinned_figures(lows, highs, table, row, lows[i], highs[i], v, total);
-    limits.met(figures)
-}
-
-// Whether some plan takes a value, and the row below the level found for it.
-pub struct Probed {
-    pub taken: bool,
+// A value of a member, and the row below the level at which the others make up for it.
+pub struct Spot {
+    pub member: usize,
+    pub value: u64,
     pub row: usize,
 }
 
-// Whether the group with member i pinned to v, which the others can make up for, has a plan; near is a row to look at first.
-pub fn probe(
-    lows: &[u64],
-    highs: &[u64],
-    table: &[u64],
-    total: u64,
-    limits: Limits,
-    i: usize,
-    v: u64,
-    near: usize,
-) -> Probed
-    requires { ⌜ Sound (now lows) (now highs) total ⌝ }
-    requires { ⌜ Table (now lows) (now highs) total (now table) ⌝ }
-    requires { ⌜ (i < length (now lows)) × (v ≤ greatestShare) ⌝ }
-    requires { ⌜ InReach (now table) (2 * length (now lows)) (getD (now lows) i 0) (getD (now highs) i 0) v total ⌝ }
-    ensures { λ r. ⌜ r .taken ≡ taken (now (lows .entry)) (now (highs .entry)) total limits i v ⌝ }
-    ensures { λ r. ⌜ Found (now (table .entry)) (2 * length (now (lows .entry))) (getD (now (lows .entry)) i 0) (getD (now (highs .entry)) i 0) v total (r .row) ⌝ }
+// Whether the group with the member pinned to the value has a plan.
+pub fn taken_at(lows: &[u64], highs: &[u64], table: &[u64], question: Question, spot: Spot) -> bool
+    requires { ⌜ Spotted (now lows) (now highs) (now table) (question .total) spot ⌝ }
+    ensures { λ r. ⌜ r ≡ taken (now (lows .entry)) (now (highs .entry)) (question .total) (question .limits) (spot .member) (spot .value) ⌝ }
 {
-    let low = lows[i];
-    let high = highs[i];
-    let row = last_within(table, 2 * lows.len(), low, high, v, total, near);
-    let figures = pinned_figures(lows, highs, table, row, low, high, v, total);
-    Probed {
-        taken: limits.met(figures),
-        row,
-    }
+    let i = spot.member;
+    let total = question.total;
+    let figures = pinned_figures(
+        lows,
+        highs,
+        table,
+        spot.row,
+        lows[i],
+        highs[i],
+        spot.value,
+        total,
+    );
+    question.limits.met(figures)
 }
 
 // A level with the copies left over there, and the row below it.
@@ -133,20 +103,14 @@ pub fn level_on(lows: &[u64], highs: &[u64], table: &[u64], total: u64) -> Level
 }
 
 // Whether the group has a plan, from the row below its level.
-pub fn has_plan(
-    lows: &[u64],
-    highs: &[u64],
-    table: &[u64],
-    row: usize,
-    total: u64,
-    limits: Limits,
-) -> bool
-    requires { ⌜ Sound (now lows) (now highs) total ⌝ }
-    requires { ⌜ Table (now lows) (now highs) total (now table) ⌝ }
-    requires { ⌜ InReach (now table) (2 * length (now lows)) 0 0 0 total ⌝ }
-    requires { ⌜ Found (now table) (2 * length (now lows)) 0 0 0 total row ⌝ }
-    ensures { λ r. ⌜ r ≡ hasPlan (now (lows .entry)) (now (highs .entry)) total limits ⌝ }
+pub fn has_plan(lows: &[u64], highs: &[u64], table: &[u64], question: Question, row: usize) -> bool
+    requires { ⌜ Sound (now lows) (now highs) (question .total) ⌝ }
+    requires { ⌜ Table (now lows) (now highs) (question .total) (now table) ⌝ }
+    requires { ⌜ InReach (now table) (2 * length (now lows)) 0 0 0 (question .total) ⌝ }
+    requires { ⌜ Found (now table) (2 * length (now lows)) 0 0 0 (question .total) row ⌝ }
+    ensures { λ r. ⌜ r ≡ hasPlan (now (lows .entry)) (now (highs .entry)) (question .total) (question .limits) ⌝ }
 {
+    let total = question.total;
     let figures = pinned_figures(lows, highs, table, row, 0, 0, 0, total);
-    limits.met(figures)
+    question.limits.met(figures)
 }

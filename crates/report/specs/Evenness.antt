@@ -5,8 +5,9 @@ use Rattle.model.specs.Figures.{above, figuresOf}
 use Rattle.model.specs.Groups.{Group}
 use Rattle.model.specs.Levels.{level}
 use Rattle.works.specs.Consistency.{PlanIn}
-use Rattle.works.specs.Tables.{Table, lowsOf, highsOf, size}
+use Rattle.works.specs.Tables.{Table, lowsOf, highsOf}
 use Rattle.report.specs.Lines.{groupLine}
+use Rattle.groups.specs.Memberships.{size}
 
 -- 01: the share printed is a plan of the group drawn from the table, and every other such plan has at least as much in total above every t
 pub record Evenest (table : Table) (group : Group) (shares : List ℕ) : Type 0 where

@@ -6,7 +6,7 @@ use crate::lines::put_unit_lines;
 use groups::MOST_FLAT;
 use job::MOST_BYTES;
 use job::Reading;
-use job::scan;
+use job::scan_groups;
 use model::Refusal;
 use works::Settling;
 use works::calls::settle_job;
@@ -16,13 +16,19 @@ ghost use mathlib.Core.Path.{_≡_};
 ghost use lib.ListN.{length, drop};
 ghost use Rattle.groups.specs.Inner.Flat.{mostFlat, Holds, groupsIn};
 ghost use Rattle.job.specs.Job.{mostBytes};
-ghost use Rattle.report.specs.Calls.{reported, reportSettled, reportText};
+ghost use Rattle.report.specs.Calls.{reported, reportBy, reportSettled, reportText};
 ghost use Rattle.report.specs.Ready.{Reportable};
-ghost use Rattle.report.specs.Inner.Ready.{WithinLimits, Workspace};
+ghost use Rattle.report.specs.Inner.Ready.{Answerable, WithinLimits};
 ghost use Rattle.report.specs.Reports.{reportOf};
 ghost use Rattle.works.specs.Calls.{settleJob};
 ghost use Rattle.works.specs.Inner.Asked.{Prepared};
 ghost use Rattle.works.specs.Tables.{tableOf};
+
+// How many units and groups a job has.
+struct Counts {
+    units: usize,
+    groups: u64,
+}
 
 // Writes the report of a settled table at the start of a buffer, and hands back its length.
 fn put_report(
@@ -32,64 +38,42 @@ fn put_report(
     groups: u64,
     lows: &[u64],
     highs: &[u64],
-    member_lows: &mut [u64],
-    member_highs: &mut [u64],
-    plan: &mut [u64],
 ) -> usize
     requires { ⌜ Reportable (groupsIn groups (now flat)) (tableOf (now lows) (now highs)) passes ⌝ }
     requires { ⌜ Holds groups (now flat) ⌝ }
-    requires { ⌜ Workspace (now «member_lows») (now «member_highs») (now plan) ⌝ }
     requires { ⌜ mostBytes ≤ length (now buffer) ⌝ }
     ensures { λ r. ⌜ r ≡ length (reportOf (groupsIn groups (now (flat .entry))) (tableOf (now (lows .entry)) (now (highs .entry))) passes) ⌝ }
     ensures { λ r. ⌜ now (buffer .exit) ≡ reportOf (groupsIn groups (now (flat .entry))) (tableOf (now (lows .entry)) (now (highs .entry))) passes ++ drop r (now (buffer .entry)) ⌝ }
 {
     let mut next = put_settled_line(buffer, 0, passes);
     next = put_unit_lines(buffer, next, lows, highs);
-    put_group_lines(
-        buffer,
-        next,
-        flat,
-        groups,
-        lows,
-        highs,
-        member_lows,
-        member_highs,
-        plan,
-    )
+    put_group_lines(buffer, next, flat, groups, lows, highs)
 }
 
-// Settles the groups of a flat list over the first units of a table, and writes the report.
-fn report_job(
-    flat: &[u64],
-    groups: u64,
-    units: usize,
-    lows: &mut [u64],
-    highs: &mut [u64],
-    scratch: &mut [u64],
+// Writes the report of a settling over the first units of a table, and answers; on a refusal the buffer keeps its bytes.
+fn put_answer(
     buffer: &mut [u8],
-    member_lows: &mut [u64],
-    member_highs: &mut [u64],
-    plan: &mut [u64],
+    answer: Settling,
+    flat: &[u64],
+    counts: Counts,
+    lows: &[u64],
+    highs: &[u64],
 ) -> Reporting
-    requires { ⌜ Prepared (now flat) groups units ⌝ }
-    requires { ⌜ WithinLimits (now flat) groups ⌝ }
-    requires { ⌜ Workspace (now «member_lows») (now «member_highs») (now plan) ⌝ }
+    requires { ⌜ Answerable (groupsIn (counts .groups) (now flat)) (counts .units) answer (now lows) (now highs) ⌝ }
+    requires { ⌜ Holds (counts .groups) (now flat) ⌝ }
     requires { ⌜ mostBytes ≤ length (now buffer) ⌝ }
-    ensures { λ r. ⌜ reported r (now (lows .exit)) (now (highs .exit)) (now (buffer .exit)) ≡ reportSettled (groupsIn groups (now (flat .entry))) units (settleJob (groupsIn groups (now (flat .entry))) units (now (lows .entry)) (now (highs .entry)) (length (now (scratch .entry)))) (now (buffer .entry)) ⌝ }
+    ensures { λ r. ⌜ reported r (now (lows .entry)) (now (highs .entry)) (now (buffer .exit)) ≡ reportBy (groupsIn (counts .groups) (now (flat .entry))) (counts .units) answer (now (lows .entry)) (now (highs .entry)) (now (buffer .entry)) ⌝ }
 {
-    let answer = settle_job(flat, groups, units, lows, highs, scratch);
     match answer {
         Settling::Settled(passes) => {
+            let units = counts.units;
             let length = put_report(
                 buffer,
                 passes,
                 flat,
-                groups,
+                counts.groups,
                 &lows[..units],
                 &highs[..units],
-                member_lows,
-                member_highs,
-                plan,
             );
             Reporting::Written { length, passes }
         }
@@ -106,42 +90,46 @@ fn report_job(
     }
 }
 
-// Reports a job text by way of lists that hold every job.
+// Settles the groups of a flat list over the first units of a table, and reports the answer.
+fn report_job(
+    flat: &[u64],
+    counts: Counts,
+    lows: &mut [u64],
+    highs: &mut [u64],
+    scratch: &mut [u64],
+    buffer: &mut [u8],
+) -> Reporting
+    requires { ⌜ Prepared (now flat) (counts .groups) (counts .units) ⌝ }
+    requires { ⌜ WithinLimits (now flat) (counts .groups) ⌝ }
+    requires { ⌜ mostBytes ≤ length (now buffer) ⌝ }
+    ensures { λ r. ⌜ reported r (now (lows .exit)) (now (highs .exit)) (now (buffer .exit)) ≡ reportSettled (groupsIn (counts .groups) (now (flat .entry))) (counts .units) (settleJob (groupsIn (counts .groups) (now (flat .entry))) (counts .units) (now (lows .entry)) (now (highs .entry)) (length (now (scratch .entry)))) (now (buffer .entry)) ⌝ }
+{
+    let answer = settle_job(flat, counts.groups, counts.units, lows, highs, scratch);
+    put_answer(buffer, answer, flat, counts, lows, highs)
+}
+
+// Reports a job text into a buffer that holds every report, by way of a list that holds the groups of every job.
 fn report_by(
     text: &[u8],
     lows: &mut [u64],
     highs: &mut [u64],
     scratch: &mut [u64],
     buffer: &mut [u8],
-    member_lows: &mut [u64],
-    member_highs: &mut [u64],
     flat: &mut [u64],
-    plan: &mut [u64],
 ) -> Reporting
-    requires { ⌜ Workspace (now «member_lows») (now «member_highs») (now plan) ⌝ }
     requires { ⌜ mostFlat ≤ length (now flat) ⌝ }
+    requires { ⌜ mostBytes ≤ length (now buffer) ⌝ }
     ensures { λ r. ⌜ reported r (now (lows .exit)) (now (highs .exit)) (now (buffer .exit)) ≡ reportText (now (text .entry)) (now (lows .entry)) (now (highs .entry)) (length (now (scratch .entry))) (now (buffer .entry)) ⌝ }
 {
-    if buffer.len() < MOST_BYTES {
-        return Reporting::Refused(Refusal {
-            number: 1,
-            place: 0,
-        });
-    }
-    let reading = scan(text, member_lows, member_highs, flat);
+    let reading = scan_groups(text, flat);
     match reading {
-        Reading::Read { units, groups } => report_job(
-            flat,
-            groups as u64,
-            units,
-            lows,
-            highs,
-            scratch,
-            buffer,
-            member_lows,
-            member_highs,
-            plan,
-        ),
+        Reading::Read { units, groups } => {
+            let counts = Counts {
+                units,
+                groups: groups as u64,
+            };
+            report_job(flat, counts, lows, highs, scratch, buffer)
+        }
         Reading::Refused(refusal) => Reporting::Refused(refusal),
     }
 }
@@ -156,19 +144,12 @@ pub fn report(
 ) -> Reporting
     ensures { λ r. ⌜ reported r (now (lows .exit)) (now (highs .exit)) (now (buffer .exit)) ≡ reportText (now (text .entry)) (now (lows .entry)) (now (highs .entry)) (length (now (scratch .entry))) (now (buffer .entry)) ⌝ }
 {
-    let mut member_lows = [0u64; 256];
-    let mut member_highs = [0u64; 256];
+    if buffer.len() < MOST_BYTES {
+        return Reporting::Refused(Refusal {
+            number: 1,
+            place: 0,
+        });
+    }
     let mut flat = [0u64; MOST_FLAT];
-    let mut plan = [0u64; 256];
-    report_by(
-        text,
-        lows,
-        highs,
-        scratch,
-        buffer,
-        &mut member_lows,
-        &mut member_highs,
-        &mut flat,
-        &mut plan,
-    )
+    report_by(text, lows, highs, scratch, buffer, &mut flat)
 }

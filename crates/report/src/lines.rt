@@ -1,4 +1,5 @@
 // The lines of a report, written into a buffer.
+use group::Levelling;
 use model::Figures;
 use print::put_form;
 use print::put_line;
@@ -8,6 +9,7 @@ ghost use mathlib.Core.List.{flatten, _++_};
 ghost use mathlib.Core.Path.{_≡_};
 ghost use lib.ListN.{length, drop};
 ghost use Rattle.print.specs.Inner.Written.{Room, Wrote};
+ghost use Rattle.report.specs.Inner.Ready.{lineOfLevelling};
 ghost use Rattle.report.specs.Lines.{settledLine, unitLine, groupLine, refusalLine};
 ghost use Rattle.report.specs.Reports.{unitLines};
 
@@ -62,6 +64,23 @@ pub fn put_group_line(
     );
     next = put_form(buffer, next, b" (plan", shares);
     put_word(buffer, next, b"))\n")
+}
+
+// Writes the line of a levelled group, and hands back the index after it; a refusal has none.
+pub fn put_levelled_line(
+    buffer: &mut [u8],
+    at: usize,
+    number: u64,
+    levelling: Levelling,
+    shares: &[u64],
+) -> usize
+    requires { ⌜ Room (now buffer) at (lineOfLevelling number levelling (now shares)) ⌝ }
+    ensures { λ r. ⌜ Wrote (lineOfLevelling number levelling (now (shares .entry))) (now (buffer .entry)) at (now (buffer .exit)) r ⌝ }
+{
+    let Levelling::Levelled { level, figures } = levelling else {
+        return at;
+    };
+    put_group_line(buffer, at, number, level.copies(), figures, shares)
 }
 
 // Writes a refusal's line at the start of a buffer, and hands back its length.

@@ -9,8 +9,21 @@ ghost use mathlib.Core.Path.{_≡_};
 ghost use Prim.Native.Nat.{_≤_};
 ghost use lib.ListN.{length, drop};
 ghost use Rattle.job.specs.Job.{mostBytes};
-ghost use Rattle.report.specs.Inner.Printed.{Lent, Opened};
+ghost use Rattle.report.specs.Inner.Printed.{Lent, Opened, sizePrinted, bufferPrinted};
 ghost use Rattle.report.specs.Program.{printedOf};
+
+// Writes the line of a refusal at the start of a buffer that no report was written in, and hands back the length of what is printed.
+fn print_answer(answer: Reporting, buffer: &mut [u8]) -> usize
+    requires { ⌜ 64 ≤ length (now buffer) ⌝ }
+    ensures { λ r. ⌜ r ≡ sizePrinted answer ⌝ }
+    ensures { λ r. ⌜ now (buffer .exit) ≡ bufferPrinted answer (now (buffer .entry)) ⌝ }
+{
+    match answer {
+        Reporting::Written { length, .. } => length,
+        Reporting::NoPlan { number, place, .. } => refusal_line(number, place, buffer),
+        Reporting::Refused(refusal) => refusal_line(refusal.number, refusal.place, buffer),
+    }
+}
 
 // Reports a job over the table that its unit lines have filled, at the start of a buffer, and hands back the length of what is printed.
 fn print_report(
@@ -25,11 +38,8 @@ fn print_report(
     ensures { λ r. ⌜ r ≡ length (printedOf (now (text .entry))) ⌝ }
     ensures { λ r. ⌜ now (buffer .exit) ≡ printedOf (now (text .entry)) ++ drop r (now (buffer .entry)) ⌝ }
 {
-    match report(text, lows, highs, scratch, buffer) {
-        Reporting::Written { length, .. } => length,
-        Reporting::NoPlan { number, place, .. } => refusal_line(number, place, buffer),
-        Reporting::Refused(refusal) => refusal_line(refusal.number, refusal.place, buffer),
-    }
+    let answer = report(text, lows, highs, scratch, buffer);
+    print_answer(answer, buffer)
 }
 
 // Fills a table from a job's unit lines and reports it, by way of lists that hold every job.

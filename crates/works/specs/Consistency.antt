@@ -5,13 +5,8 @@ use mathlib.Core.Path.{_≡_}
 use lib.ListN.{getD}
 use Rattle.model.specs.Groups.{Group}
 use Rattle.model.specs.Plans.{Plan}
-use Rattle.works.specs.Tables.{Table, Valid, units, lowOf, highOf, Inside, Place, gather, lowsOf, highsOf, size, unitOf}
-
--- 01: "A group names n different units", at least one, each one of the job's
-pub record SoundGroup (count : ℕ) (group : Group) : Type 0 where
-  pub some : 0 < size group
-  pub below : (k : ℕ) → k < size group → unitOf group k < count
-  pub different : (j k : ℕ) → j < size group → k < size group → unitOf group j ≡ unitOf group k → j ≡ k
+use Rattle.works.specs.Tables.{Table, Valid, units, lowOf, highOf, Inside, Place, gather, lowsOf, highsOf}
+use Rattle.groups.specs.Memberships.{size, unitOf, SoundGroup}
 
 -- the groups and the opening table that the checks ahead of settling let through
 pub record Sound (groups : List Group) (table : Table) : Type 0 where

@@ -74,13 +74,6 @@ lowsOf table group = gather (table .lows) (group .members)
 abbrev pub highsOf : Table → Group → List ℕ
 highsOf table group = gather (table .highs) (group .members)
 
--- the number of members, and the unit of member k, counted from 0
-abbrev pub size : Group → ℕ
-size group = length (group .members)
-
-abbrev pub unitOf : Group → ℕ → ℕ
-unitOf group k = getD (group .members) k 0
-
 -- a unit is a member, at some place in the group's order
 abbrev pub Place : List ℕ → ℕ → Type 0
 Place members unit = (k : ℕ) × (k < length members) × (getD members k 0 ≡ unit)

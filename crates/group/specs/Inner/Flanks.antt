@@ -1,12 +1,14 @@
 -- The rows on either side of a value of a member. Assumes nothing.
-use Prim.Native.Nat.{ℕ, suc, _*_, _≤_, _<_}
-use mathlib.Core.Bool.{false}
+use Prim.Native.Nat.{ℕ, suc, _+_, _*_, _≤_, _<_}
+use mathlib.Core.Bool.{true, false}
 use mathlib.Core.List.{List}
 use mathlib.Core.Path.{_≡_}
+use lib.Dec.{ltb}
 use lib.ListN.{length, getD}
 use Rattle.model.specs.Plans.{taken}
 use Rattle.model.specs.declared.Limits.{Limits}
-use Rattle.probe.specs.Inner.Probes.{Found, InReach}
+use Rattle.probe.specs.Inner.Probes.{Found, RowOf, MadeUp}
+use Rattle.group.specs.declared.ends.Flanks.{Flanks}
 use Rattle.group.specs.declared.ends.Gap.{Gap}
 use Rattle.group.specs.Inner.Edges.{Straddle, Approach}
 
@@ -17,15 +19,35 @@ pub record Flanked (table : List ℕ) (last low high total outer inner far near 
   pub falling : inner < outer → (far < near) × (near ≤ suc last) × Found table last low high outer total far
       × ((j : ℕ) → suc j ≡ near → Found table last low high inner total j)
 
--- two values of one row, the outer one not taken and the inner one taken
-pub record OneRow (lows highs table : List ℕ) (total : ℕ) (limits : Limits) (i : ℕ) (gap : Gap) : Type 0 where
-  pub way : Approach lows highs table total limits i (gap .outer) (gap .inner)
-  pub fails : taken lows highs total limits i (gap .outer) ≡ false
-  pub reach : InReach table (2 * length lows) (getD lows i 0) (getD highs i 0) (gap .outer) total
-  pub of-outer : Found table (2 * length lows) (getD lows i 0) (getD highs i 0) (gap .outer) total (gap .row)
-  pub of-inner : Found table (2 * length lows) (getD lows i 0) (getD highs i 0) (gap .inner) total (gap .row)
+-- a way to a value that the others can make up for, but no plan gives the member
+pub record Search (lows highs table : List ℕ) (total : ℕ) (limits : Limits) (i outer inner : ℕ) : Type 0 where
+  pub way : Approach lows highs table total limits i outer inner
+  pub fails : taken lows highs total limits i outer ≡ false
+  pub reach : MadeUp lows highs table total i outer
 
--- such values between two others
-pub record ToOneRow (lows highs table : List ℕ) (total : ℕ) (limits : Limits) (i outside inside : ℕ) (gap : Gap) : Type 0 where
-  pub straddle : Straddle (taken lows highs total limits i) outside inside (gap .outer) (gap .inner)
-  pub ends : OneRow lows highs table total limits i gap
+-- one with rows around its ends
+pub record Flanking (lows highs table : List ℕ) (total : ℕ) (limits : Limits) (flanks : Flanks) : Type 0 where
+  pub search : Search lows highs table total limits (flanks .member) (flanks .outer) (flanks .inner)
+  pub rows : Flanked table (2 * length lows) (getD lows (flanks .member) 0) (getD highs (flanks .member) 0) total (flanks .outer) (flanks .inner) (flanks .far) (flanks .near)
+
+-- two values with the rows around theirs: the row of the lesser one moved on by one
+unfoldable pub flanksOf : ℕ → ℕ → ℕ → ℕ → ℕ → Flanks
+flanksOf member outer inner far near = record {
+  member = member;
+  outer = outer;
+  inner = inner;
+  far = elim (ltb outer inner) [ true ↦ far + 1 | false ↦ far ];
+  near = elim (ltb outer inner) [ true ↦ near | false ↦ near + 1 ];
+}
+
+-- one with both ends of one row
+pub record OneRow (lows highs table : List ℕ) (total : ℕ) (limits : Limits) (gap : Gap) : Type 0 where
+  pub search : Search lows highs table total limits (gap .member) (gap .outer) (gap .inner)
+  pub of-outer : RowOf lows highs table total (gap .member) (gap .outer) (gap .row)
+  pub of-inner : RowOf lows highs table total (gap .member) (gap .inner) (gap .row)
+
+-- such a one between two others
+pub record ToOneRow (lows highs table : List ℕ) (total : ℕ) (limits : Limits) (flanks : Flanks) (gap : Gap) : Type 0 where
+  pub same : gap .member ≡ flanks .member
+  pub straddle : Straddle (taken lows highs total limits (flanks .member)) (flanks .outer) (flanks .inner) (gap .outer) (gap .inner)
+  pub ends : OneRow lows highs table total limits gap

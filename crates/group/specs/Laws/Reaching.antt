@@ -1,23 +1,21 @@
 -- From an end of member i's range to the nearest value that the other members can make up for. Assumes nothing.
 use Prim.Native.Nat.{ℕ, suc, _+_, _-_, _*_, _≤_, _<_}
-use mathlib.Core.Bool.{Bool, true, false}
+use mathlib.Core.Bool.{Bool, false}
 use mathlib.Core.List.{List}
-use mathlib.Core.Logic.{_≢_}
-use mathlib.Core.Path.{_≡_, sym, ap, _∙_}
+use mathlib.Core.Path.{_≡_}
 use native.Mathlib.Decide.{decLt}
 use native.Mathlib.Omega.{arith, by-contra}
 use lib.ListN.{length, getD}
 use Rattle.model.specs.Shares.{greatestShare}
 use Rattle.model.specs.Plans.{taken}
-use Rattle.model.specs.Laws.Tests.{clash}
 use Rattle.model.specs.declared.Limits.{Limits}
 use Rattle.probe.specs.Inner.Rows.{rowAt}
 use Rattle.probe.specs.Laws.Pins.{pinned}
 use Rattle.probe.specs.Inner.Probes.{pinnedTotal, Probeable, InReach, IntoReach}
 use Rattle.probe.specs.Laws.Probes.{probeable}
-use Rattle.probe.specs.Laws.Reaching.{reach-between, short-fails, long-fails, taken-reach}
+use Rattle.probe.specs.Laws.Reaching.{short-fails, long-fails, taken-reach}
 use Rattle.group.specs.Inner.Edges.{Approach}
-use Rattle.group.specs.Laws.Edges.{Nearest, Between}
+use Rattle.group.specs.Laws.Edges.{Nearest}
 
 module _ {lows highs table : List ℕ} {total : ℕ} {limits : Limits} {i end share : ℕ} (way : Approach lows highs table total limits i end share) where
   abbrev last : ℕ
@@ -46,19 +44,6 @@ module _ {lows highs table : List ℕ} {total : ℕ} {limits : Limits} {i end sh
   -- the share is in reach
   pub share-reach : InReach table last low high share total
   share-reach = taken-reach (way .tabled .sound) (way .tabled .held) limits i (way .here) share (way .share-small) (way .passes)
-
-  -- so is what lies between a value in reach that is not taken and one that is taken
-  pub between-reach : {outer inner v : ℕ} → inner ≤ greatestShare → test inner ≡ true → InReach table last low high outer total → test outer ≡ false
-      → Between outer inner v → InReach table last low high v total
-  between-reach {outer} {inner} {v} small passes from fails between =
-      let upTo = taken-reach (way .tabled .sound) (way .tabled .held) limits i (way .here) inner small passes in
-      let other : outer ≢ inner = (λ same. clash passes (ap test (sym same) ∙ fails)) in
-      elim (decLt outer inner) [
-        | yes less ↦ reach-between from upTo v (between .rising less .0) (between .rising less .1)
-        | no more ↦
-            let less : inner < outer = omega (arith, other) in
-            reach-between upTo from v (between .falling less .0) (between .falling less .1)
-      ]
 
   -- T moves with the value
   module _ (k : ℕ) (upTo : k ≤ last) (v w : ℕ) (from : v ≤ w) (small : w ≤ greatestShare) where

@@ -26,6 +26,10 @@ abbrev pub limitOf : ℕ → Limit
 limitOf zero = Any
 limitOf (suc most) = AtMost most
 
+-- so many numbers stand in front of a group's members
+abbrev pub headLength : ℕ
+headLength = 4
+
 -- the numbers in front of a group's members: total, deviation limit, spread limit, number of members
 abbrev pub headOf : ℕ → Limits → ℕ → List ℕ
 headOf total limits count = total ∷ limitCode (limits .deviation) ∷ limitCode (limits .spread) ∷ count ∷ []
@@ -41,7 +45,7 @@ flatten (g ∷ gs) = flatGroup g ++ flatten gs
 
 -- the numbers that so many groups with so many memberships take
 abbrev pub flatLength : ℕ → ℕ → ℕ
-flatLength groups taken = groups * 4 + taken
+flatLength groups taken = groups * headLength + taken
 
 -- the most: 64 groups with 4,096 memberships
 abbrev pub mostFlat : ℕ
@@ -52,14 +56,14 @@ abbrev pub storedAt : List ℕ → ℕ → Stored
 storedAt flat at = record {
   total = getD flat at 0;
   limits = record { deviation = limitOf (getD flat (at + 1) 0); spread = limitOf (getD flat (at + 2) 0) };
-  from = at + 4;
+  from = at + headLength;
   count = getD flat (at + 3) 0;
-  next = at + 4 + getD flat (at + 3) 0;
+  next = at + headLength + getD flat (at + 3) 0;
 }
 
 -- it lies whole in the list
 abbrev pub Whole : List ℕ → ℕ → Type 0
-Whole flat at = at + 4 + getD flat (at + 3) 0 ≤ length flat
+Whole flat at = at + headLength + getD flat (at + 3) 0 ≤ length flat
 
 -- the group with its members
 abbrev pub groupIn : List ℕ → Stored → Group

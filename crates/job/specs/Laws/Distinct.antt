@@ -3,14 +3,15 @@ use Prim.Native.Nat.{ℕ, zero, suc, _+_, _-_, _≤_, _<_}
 use mathlib.Core.Bool.{Bool, true, not, _&&_}
 use mathlib.Core.List.{List, [], _∷_, map}
 use mathlib.Core.Path.{_≡_, refl, sym, _∙_}
+use native.Mathlib.Nat.{le-of-suc-le-suc}
 use native.Mathlib.Omega.{arith}
 use native.Mathlib.Decide.{ℕ-discrete}
-use borrow.Author.Tests.{eq-eqb, ne-eqb, leb-true}
+use borrow.Author.Tests.{eq-eqb, ne-eqb, leb-true, not-true}
 use lib.Dec.{eqb, leb}
 use lib.ListN.{length, getD, set, drop, replicate, length-set, length-replicate, getD-replicate}
 use native.Mathlib.Numerals.{add-one}
 use lib.Seq.{getD-set-same, getD-set-other, drop-cons}
-use Rattle.model.specs.Laws.Tests.{both-left, both-right, and-exchanged, and-regrouped}
+use Rattle.model.specs.Laws.Tests.{both-left, both-right, clash, either-right, and-exchanged, and-regrouped}
 use Rattle.job.specs.Job.{named, allNamed, holds, distinct, memberOf}
 use Rattle.job.specs.Below.{AllBelow}
 use Rattle.job.specs.Inner.Distinct.{freshBy}
@@ -92,3 +93,22 @@ fresh-next marks xs i h = rw (add-one, drop-cons xs i 0)
 pub fresh-end : (marks : List ℕ) → freshBy marks [] ≡ true
 unfolding freshBy
 fresh-end marks = refl
+
+-- a number at a place of a list is found there
+found-at : (x : ℕ) (xs : List ℕ) (k : ℕ) → k < length xs → x ≡ getD xs k 0 → holds x xs ≡ true
+unfolding holds
+found-at x [] k h e = absurd (omega arith)
+found-at x (y ∷ ys) zero h e = rw (eq-eqb x y e)
+found-at x (y ∷ ys) (suc k) h e = either-right (eqb x y) (found-at x ys k (le-of-suc-le-suc h) e)
+
+-- no two places of distinct numbers have the same
+pub distinct-at : (xs : List ℕ) → distinct xs ≡ true → (j k : ℕ) → j < length xs → k < length xs → getD xs j 0 ≡ getD xs k 0 → j ≡ k
+unfolding distinct
+distinct-at [] held j k p q e = absurd (omega arith)
+distinct-at (x ∷ xs) held zero zero p q e = refl
+distinct-at (x ∷ xs) held zero (suc k) p q e =
+    absurd (clash (found-at x xs k (le-of-suc-le-suc q) e) (not-true (holds x xs) (both-left _ _ held)))
+distinct-at (x ∷ xs) held (suc j) zero p q e =
+    absurd (clash (found-at x xs j (le-of-suc-le-suc p) (sym e)) (not-true (holds x xs) (both-left _ _ held)))
+distinct-at (x ∷ xs) held (suc j) (suc k) p q e =
+    omega (arith, distinct-at xs (both-right (not (holds x xs)) _ held) j k (le-of-suc-le-suc p) (le-of-suc-le-suc q) e)

@@ -15,19 +15,19 @@ use Rattle.job.specs.Form.{Line, unit, group, line}
 use Rattle.groups.specs.Memberships.{memberships}
 use Rattle.groups.specs.Laws.Storing.{memberships-snoc}
 use Rattle.job.specs.Job.{Job, mostBytes, groupOf, verdict, add, placeOf, judged, Stepped, next, stop, stepOn, Outcome, accepted, refused, refusal, onward, readLines, noLines, someUnit, readJob}
-use Rattle.job.specs.Laws.Distinct.{distinct-members, members-below}
+use Rattle.job.specs.Laws.Distinct.{distinct-members, members-below, below-at, distinct-at}
 use Rattle.job.specs.Laws.Verdicts.{unit-good, first-zero, head-good, members-good}
-use Rattle.job.specs.Sound.{SoundGroup, none, also, SoundGroups, Built, Sound}
+use Rattle.job.specs.Sound.{AcceptedGroup, none, also, AcceptedGroups, Built, Sound}
 
 ranges-snoc : {ls hs : List ℕ} (l h : ℕ) → Ranges ls hs → l ≤ h → h ≤ greatestShare → Ranges (ls ++ l ∷ []) (hs ++ h ∷ [])
 ranges-snoc l h no-ranges p q = and-range p q no-ranges
 ranges-snoc l h (and-range a b r) p q = and-range a b (ranges-snoc l h r p q)
 
-groups-snoc : {units : ℕ} {gs : List Group} {g : Group} → SoundGroups units gs → SoundGroup units g → SoundGroups units (gs ++ g ∷ [])
+groups-snoc : {units : ℕ} {gs : List Group} {g : Group} → AcceptedGroups units gs → AcceptedGroup units g → AcceptedGroups units (gs ++ g ∷ [])
 groups-snoc none s = also s none
 groups-snoc (also a r) s = also a (groups-snoc r s)
 
-no-groups : (n : ℕ) (gs : List Group) → length gs ≡ 0 → SoundGroups n gs
+no-groups : (n : ℕ) (gs : List Group) → length gs ≡ 0 → AcceptedGroups n gs
 no-groups n [] h = none
 no-groups n (g ∷ gs) h = absurd (omega arith)
 
@@ -58,9 +58,11 @@ built-on job (group g) b e =
             total-fits = k .total-fits;
             deviation-fits = k .deviation-fits;
             spread-fits = k .spread-fits;
-            some-member = omega arith;
-            all-units = members-below _ _ (g .first ∷ g .others) (omega arith) (m .all-named);
-            all-different = distinct-members _ (g .first ∷ g .others) (m .all-named) ∙ m .all-distinct;
+            sound = record {
+              some = omega arith;
+              below = λ i h. below-at _ _ i (members-below _ _ (g .first ∷ g .others) (omega arith) (m .all-named)) h;
+              different = distinct-at _ (distinct-members _ (g .first ∷ g .others) (m .all-named) ∙ m .all-distinct);
+            };
           });
     }
 

@@ -1,19 +1,19 @@
 -- Taking a line: the code's tests and stores do to its lists what the line does to the job. Assumes nothing.
 use Prim.Native.Nat.{ℕ, zero, suc, _+_, _≤_, _<_}
-use mathlib.Core.Bool.{true, false}
-use mathlib.Core.List.{List, [], _∷_, _++_, map, append-assoc}
+use mathlib.Core.List.{List, [], _∷_, _++_, map}
 use mathlib.Core.Path.{_≡_, refl, sym, ap, _∙_}
 use native.Mathlib.Omega.{arith}
-use lib.ListN.{length, take, drop, set, length-append, length-drop, length-map}
-use lib.Seq.{sets, sets-eq, take-at, drop-at, length-take-le}
+use lib.ListN.{length, drop, set, length-append, length-drop, length-map}
+use lib.Seq.{sets}
 use Rattle.model.specs.declared.Limits.{Limits}
 use Rattle.text.specs.Parsed.{parsed, failed, mapped, orElse}
 use Rattle.text.specs.Inner.Numbers.{held}
 use Rattle.job.specs.Form.{UnitLine, GroupLine, unit, group, unitAs, groupAs, lineAs, line}
-use Rattle.job.specs.Laws.Held.{step-held}
-use Rattle.groups.specs.Inner.Flat.{mostFlat, headOf, flatGroup, flatten, flatLength}
+use Rattle.job.specs.Laws.HeldAlike.{step-held}
+use Rattle.groups.specs.Inner.Flat.{mostFlat, headLength, headOf, flatGroup, flatten, flatLength}
 use Rattle.groups.specs.Laws.Storing.{flatten-snoc, length-flatten, memberships-snoc, stored, put-behind}
-use Rattle.job.specs.Job.{Job, mostUnits, unitVerdict, headVerdict, membersVerdict, verdict, first, allNamed, distinct, memberOf, groupOf, add, refusal, placeOf, judged, next, stop, stepOn}
+use Rattle.job.specs.Job.{Job, mostUnits, unitVerdict, headVerdict, membersVerdict, verdict, first, memberOf, groupOf, add, refusal, placeOf, judged, next, stop, stepOn}
+use Rattle.job.specs.Laws.Tally.{numbersOf}
 use Rattle.job.specs.Laws.Verdicts.{unit-good, head-good}
 use Rattle.job.specs.Inner.Steps.{Lists, Holds}
 use Rattle.job.specs.declared.steps.Progress.{Progress}
@@ -66,48 +66,32 @@ module _ (job : Job) (p : Progress) (l : Lists) (holds : Holds job p l) where
         flat = holds .flat;
       }
 
-first-some : (v w : ℕ) → (v ≡ 0 → ⊥) → first v w ≡ v
-first-some zero w n = absurd (n refl)
-first-some (suc v) w n = refl
-
--- the unit numbers of a group line
-abbrev pub numbersOf : GroupLine → List ℕ
-numbersOf g = g .first ∷ g .others
-
 module _ (job : Job) (p : Progress) (l : Lists) (holds : Holds job p l) (g : GroupLine) where
   abbrev headNumber : ℕ
   headNumber = headVerdict (p .groups) (p .memberships) (g .total) (g .limits) (length (numbersOf g))
 
-  group-verdict : verdict job (group g) ≡ first headNumber (membersVerdict (p .units) (numbersOf g))
+  abbrev groupVerdict : ℕ
+  groupVerdict = first headNumber (membersVerdict (p .units) (numbersOf g))
+
+  group-verdict : verdict job (group g) ≡ groupVerdict
   unfolding verdict
   group-verdict = rw (holds .units, holds .groups, holds .taken)
 
-  -- a group line whose head has a refusal
-  pub head-refused : (s : List ℕ) (v : ℕ) → v ≡ headNumber → (v ≡ 0 → ⊥) → stepOn job (parsed (group g) s) ≡ stop (refusal v (placeAt p))
+  -- a group line with a refusal
+  pub group-refused : (s : List ℕ) (v : ℕ) → v ≡ groupVerdict → (v ≡ 0 → ⊥) → stepOn job (parsed (group g) s) ≡ stop (refusal v (placeAt p))
   unfolding stepOn
-  head-refused s v e n =
-      rw (group-verdict, ← e, first-some v (membersVerdict (p .units) (numbersOf g)) n, judged-stop v (add job (group g)) s (placeOf job) n, place-held job p l holds)
+  group-refused s v e n = rw (group-verdict, ← e, judged-stop v (add job (group g)) s (placeOf job) n, place-held job p l holds)
 
-  -- a group line with a unit number out of range
-  pub number-refused : (s : List ℕ) → headNumber ≡ 0 → allNamed (p .units) (numbersOf g) ≡ false → stepOn job (parsed (group g) s) ≡ stop (refusal 8 (placeAt p))
-  unfolding stepOn membersVerdict
-  number-refused s e h = rw (group-verdict, e, h, place-held job p l holds)
-
-  -- a group line with a unit twice
-  pub twice-refused : (s : List ℕ) → headNumber ≡ 0 → allNamed (p .units) (numbersOf g) ≡ true → distinct (numbersOf g) ≡ false → stepOn job (parsed (group g) s) ≡ stop (refusal 9 (placeAt p))
-  unfolding stepOn membersVerdict
-  twice-refused s e h d = rw (group-verdict, e, h, d, place-held job p l holds)
-
-  -- a group line without a refusal
-  pub group-next : (s : List ℕ) → headNumber ≡ 0 → allNamed (p .units) (numbersOf g) ≡ true → distinct (numbersOf g) ≡ true → stepOn job (parsed (group g) s) ≡ next (add job (group g)) s
-  unfolding stepOn membersVerdict
-  group-next s e h d = rw (group-verdict, e, h, d)
+  -- a group line without one
+  pub group-next : (s : List ℕ) → groupVerdict ≡ 0 → stepOn job (parsed (group g) s) ≡ next (add job (group g)) s
+  unfolding stepOn
+  group-next s e = rw (group-verdict, e)
 
   -- where the line's numbers begin in the flat list
   abbrev start : ℕ
   start = flatLength (p .groups) (p .memberships)
 
-  fits : headNumber ≡ 0 → mostFlat ≤ length (l .flat) → start + 4 + length (numbersOf g) ≤ length (l .flat₀)
+  fits : headNumber ≡ 0 → mostFlat ≤ length (l .flat) → start + headLength + length (numbersOf g) ≤ length (l .flat₀)
   fits e h =
       let k = head-good _ _ (g .total) (g .limits) _ e in
       omega (arith, k .room, k .fits, ap length (holds .flat), length-append (flatten (job .groups)) (drop start (l .flat₀)), length-drop start (l .flat₀), length-flatten (job .groups), holds .groups, holds .taken)
@@ -116,21 +100,21 @@ module _ (job : Job) (p : Progress) (l : Lists) (holds : Holds job p l) (g : Gro
   abbrev pub headNumbers : List ℕ
   headNumbers = headOf (g .total) (g .limits) (length (numbersOf g))
 
-  flat-stored : headNumber ≡ 0 → mostFlat ≤ length (l .flat) → sets (sets (l .flat) (start + 4) (map memberOf (numbersOf g))) start headNumbers ≡ flatten (job .groups ++ groupOf g ∷ []) ++ drop (flatLength (p .groups + 1) (p .memberships + length (numbersOf g))) (l .flat₀)
+  flat-stored : headNumber ≡ 0 → mostFlat ≤ length (l .flat) → sets (sets (l .flat) (start + headLength) (map memberOf (numbersOf g))) start headNumbers ≡ flatten (job .groups ++ groupOf g ∷ []) ++ drop (flatLength (p .groups + 1) (p .memberships + length (numbersOf g))) (l .flat₀)
   flat-stored e h =
       let ms : List ℕ = map memberOf (numbersOf g) in
       let n : length ms ≡ length (numbersOf g) = length-map (numbersOf g) memberOf in
       let before : length (flatten (job .groups)) ≡ start = length-flatten (job .groups) ∙ rw (holds .groups, holds .taken) in
       let whole : flatten (job .groups) ++ flatGroup (groupOf g) ≡ flatten (job .groups ++ groupOf g ∷ []) = sym (flatten-snoc (job .groups) (groupOf g)) in
-      let end : start + 4 + length ms ≡ flatLength (p .groups + 1) (p .memberships + length (numbersOf g)) = omega arith in
-      ap (λ f. sets (sets f (start + 4) ms) start headNumbers) (holds .flat)
-      ∙ ap (λ k. sets (sets (flatten (job .groups) ++ drop start (l .flat₀)) (start + 4) ms) start (headOf (g .total) (g .limits) k)) (sym n)
+      let end : start + headLength + length ms ≡ flatLength (p .groups + 1) (p .memberships + length (numbersOf g)) = omega arith in
+      ap (λ f. sets (sets f (start + headLength) ms) start headNumbers) (holds .flat)
+      ∙ ap (λ k. sets (sets (flatten (job .groups) ++ drop start (l .flat₀)) (start + headLength) ms) start (headOf (g .total) (g .limits) k)) (sym n)
       ∙ stored (g .total) (g .limits) (length ms) ms (flatten (job .groups)) (l .flat₀) start before (omega (arith, fits e h))
-      ∙ ap (λ f. f ++ drop (start + 4 + length ms) (l .flat₀)) whole
+      ∙ ap (λ f. f ++ drop (start + headLength + length ms) (l .flat₀)) whole
       ∙ ap (λ k. flatten (job .groups ++ groupOf g ∷ []) ++ drop k (l .flat₀)) end
 
   -- the lists with a group more hold the job with it
-  pub group-holds : (count : ℕ) (flat : List ℕ) → headNumber ≡ 0 → mostFlat ≤ length (l .flat) → length (numbersOf g) ≡ count → flat ≡ sets (sets (l .flat) (start + 4) (map memberOf (numbersOf g))) start headNumbers → Holds (add job (group g)) (record { units = p .units; groups = p .groups + 1; memberships = p .memberships + count }) (record { lows₀ = l .lows₀; highs₀ = l .highs₀; flat₀ = l .flat₀; lows = l .lows; highs = l .highs; flat = flat })
+  pub group-holds : (count : ℕ) (flat : List ℕ) → headNumber ≡ 0 → mostFlat ≤ length (l .flat) → length (numbersOf g) ≡ count → flat ≡ sets (sets (l .flat) (start + headLength) (map memberOf (numbersOf g))) start headNumbers → Holds (add job (group g)) (record { units = p .units; groups = p .groups + 1; memberships = p .memberships + count }) (record { lows₀ = l .lows₀; highs₀ = l .highs₀; flat₀ = l .flat₀; lows = l .lows; highs = l .highs; flat = flat })
   unfolding add
   group-holds count flat e h n s =
       let k = head-good _ _ (g .total) (g .limits) _ e in
@@ -144,11 +128,6 @@ module _ (job : Job) (p : Progress) (l : Lists) (holds : Holds job p l) (g : Gro
         highs = holds .highs;
         flat = rw (s, ← n) (flat-stored e h);
       }
-
--- the part of a list where numbers were stored
-pub part-of-sets : (d vs : List ℕ) (i : ℕ) → i + length vs ≤ length d → take (length vs) (drop i (sets d i vs)) ≡ vs
-part-of-sets d vs i h =
-    rw (sets-eq vs d i h, append-assoc, drop-at (take i d) (vs ++ drop (i + length vs) d) i (length-take-le i d (omega arith))) (take-at vs _ (length vs) refl)
 
 -- equal heads are stored alike
 pub heads-alike : (d : List ℕ) (at : ℕ) {t u : ℕ} {l k : Limits} {n m : ℕ} → t ≡ u → l ≡ k → n ≡ m → sets d at (headOf t l n) ≡ sets d at (headOf u k m)

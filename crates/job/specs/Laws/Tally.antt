@@ -102,15 +102,19 @@ unfolding grouped mapped tallied
 grouped-some units from flat h [] s t e n = absurd (n (sym (ap (λ (t : Tally). t .count) e)))
 grouped-some units from flat h (m ∷ ms) s t e n = rw (← e)
 
+-- the unit numbers of a group line
+abbrev pub numbersOf : GroupLine → List ℕ
+numbersOf g = g .first ∷ g .others
+
 -- what the code knows of a group line that it read
 pub record GroupFacts (units from : ℕ) (flat flat′ s r : List ℕ) (head : Head) (count : ℕ) (within : Bool) : Type 0 where
   pub line : GroupLine
   pub read : groupAs held s ≡ parsed line r
   pub total : line .total ≡ head .total
   pub limits : line .limits ≡ head .limits
-  pub counted : length (line .first ∷ line .others) ≡ count
-  pub all-within : allNamed units (line .first ∷ line .others) ≡ within
-  pub stored : flat′ ≡ sets flat from (map memberOf (line .first ∷ line .others))
+  pub counted : length (numbersOf line) ≡ count
+  pub all-within : allNamed units (numbersOf line) ≡ within
+  pub stored : flat′ ≡ sets flat from (map memberOf (numbersOf line))
 
 -- they are known from the answer
 pub group-facts : (units from : ℕ) (flat flat′ s r : List ℕ) (head : Head) (count : ℕ) (within : Bool) → mapped (groupTally units from flat) (groupAs held s) ≡ parsed (record { head = head; tally = record { count = count; within = within; flat = flat′ } }) r → GroupFacts units from flat flat′ s r head count within

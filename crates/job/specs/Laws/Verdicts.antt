@@ -15,9 +15,29 @@ use Rattle.model.specs.declared.Limits.{Limits}
 use Rattle.job.specs.Form.{UnitLine}
 use Rattle.job.specs.Job.{mostUnits, mostGroups, mostMemberships, allNamed, distinct, unless, unitVerdict, headVerdict, membersVerdict, first}
 
+-- a test that holds leaves the verdict to those after it
+pub passes : {t : Bool} (n : ℕ) {v r : ℕ} → t ≡ true → v ≡ r → v ≡ unless t n r
+passes n h e = rw h e
+
+-- one that fails is the verdict
+pub fails : {t : Bool} {n : ℕ} (r : ℕ) → t ≡ false → n ≡ unless t n r
+fails r h = rw h
+
 unless-zero : (t : Bool) (n r : ℕ) → unless t (suc n) r ≡ 0 → (t ≡ true) × (r ≡ 0)
 unless-zero true n r h = (refl, h)
 unless-zero false n r h = absurd (omega arith)
+
+-- the first that is one is the verdict
+pub first-some : {a : ℕ} (b : ℕ) → (a ≡ 0 → ⊥) → a ≡ first a b
+first-some {a} b n = by-number a n
+  where
+    by-number : (a : ℕ) → (a ≡ 0 → ⊥) → a ≡ first a b
+    by-number zero n = absurd (n refl)
+    by-number (suc a) n = refl
+
+-- where it is none, the other is
+pub first-none : {a v b : ℕ} → a ≡ 0 → v ≡ b → v ≡ first a b
+first-none z e = rw z e
 
 -- neither refuses
 pub first-zero : (a b : ℕ) → first a b ≡ 0 → (a ≡ 0) × (b ≡ 0)

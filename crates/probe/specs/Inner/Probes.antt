@@ -2,7 +2,7 @@
 use Prim.Native.Nat.{ℕ, suc, _+_, _-_, _*_, _≤_, _<_}
 use mathlib.Core.List.{List}
 use mathlib.Core.Path.{_≡_}
-use lib.ListN.{length}
+use lib.ListN.{length, getD}
 use Rattle.model.specs.Levels.{clamp, growth}
 use Rattle.probe.specs.declared.rows.Row.{Row}
 use Rattle.probe.specs.declared.pins.Reach.{Reach}
@@ -37,6 +37,13 @@ pub record Found (table : List ℕ) (last low high v total k : ℕ) : Type 0 whe
 pub record InReach (table : List ℕ) (last low high v total : ℕ) : Type 0 where
   pub least : pinnedTotal (rowAt table 0) low high v ≤ total
   pub greatest : total ≤ pinnedTotal (rowAt table last) low high v
+
+-- the same for a value of member i of a group, whose table has twice as many rows after the first
+abbrev pub RowOf : List ℕ → List ℕ → List ℕ → ℕ → ℕ → ℕ → ℕ → Type 0
+RowOf lows highs table total i v k = Found table (2 * length lows) (getD lows i 0) (getD highs i 0) v total k
+
+abbrev pub MadeUp : List ℕ → List ℕ → List ℕ → ℕ → ℕ → ℕ → Type 0
+MadeUp lows highs table total i v = InReach table (2 * length lows) (getD lows i 0) (getD highs i 0) v total
 
 -- v moved up by what is short of the total, or down by what is too much
 pub record IntoReach (table : List ℕ) (last low high v total r : ℕ) : Type 0 where

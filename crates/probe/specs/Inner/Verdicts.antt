@@ -1,12 +1,16 @@
 -- What is asked of a probe, and the pinned group's figures. Assumes nothing.
-use Prim.Native.Nat.{ℕ}
+use Prim.Native.Nat.{ℕ, _≤_, _<_}
 use mathlib.Core.List.{List}
 use mathlib.Core.Path.{_≡_}
 use lib.ListN.{length}
+use Rattle.model.specs.Shares.{greatestShare}
 use Rattle.model.specs.Figures.{figuresOf}
 use Rattle.model.specs.Levels.{levelled}
 use Rattle.model.specs.declared.Figures.{Figures}
+use Rattle.probe.specs.declared.probing.Spot.{Spot}
+use Rattle.probe.specs.Inner.Tables.{Sound, Table}
 use Rattle.probe.specs.Inner.Pins.{Pin}
+use Rattle.probe.specs.Inner.Probes.{RowOf, MadeUp}
 
 -- some ranges have v in place of what a member with this low and high has
 pub record Asked (lows highs : List ℕ) (low high v : ℕ) : Type 0 where
@@ -17,3 +21,12 @@ pub record Asked (lows highs : List ℕ) (low high v : ℕ) : Type 0 where
 -- the figures of the levelled shares in all such ranges
 pub record PinnedFigures (lows highs : List ℕ) (low high v total : ℕ) (figures : Figures) : Type 0 where
   pub is : {lows′ highs′ : List ℕ} → Pin lows highs low high v lows′ highs′ → figures ≡ figuresOf (length lows′) total (levelled lows′ highs′ total)
+
+-- a value that the other members can make up for, with its row
+pub record Spotted (lows highs table : List ℕ) (total : ℕ) (spot : Spot) : Type 0 where
+  pub sound : Sound lows highs total
+  pub held : Table lows highs total table
+  pub here : spot .member < length lows
+  pub small : spot .value ≤ greatestShare
+  pub reach : MadeUp lows highs table total (spot .member) (spot .value)
+  pub found : RowOf lows highs table total (spot .member) (spot .value) (spot .row)

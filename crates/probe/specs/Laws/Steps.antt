@@ -11,28 +11,36 @@ use Rattle.probe.specs.declared.rows.Row.{Row}
 use Rattle.probe.specs.Inner.Orders.{RisingBy}
 use Rattle.probe.specs.Laws.Spans.{span}
 use Rattle.probe.specs.Laws.Walks.{rearranged-small, next-up, passes-none, passed-none, passed-one}
-use Rattle.probe.specs.Inner.Tables.{Sound, SpanTo, Moved}
+use Rattle.probe.specs.Inner.Tables.{Sound, Sums, SpanTo, Moved}
 use Rattle.probe.specs.Inner.Steps.{Risen, Walk, Stepped}
 
--- a row with one low more passed, or one high more
-abbrev pub lowPassed : Row → Row
-lowPassed row = record {
+-- a row with other numbers of bounds passed: one low more, or one high more
+abbrev withPassed : Row → ℕ → ℕ → Row
+withPassed row a b = record {
   mark = row .mark;
   total = row .total;
   deviation = row .deviation;
   squares = row .squares;
-  lows = row .lows + 1;
-  highs = row .highs;
+  lows = a;
+  highs = b;
 }
 
+abbrev pub lowPassed : Row → Row
+lowPassed row = withPassed row (row .lows + 1) (row .highs)
+
 abbrev pub highPassed : Row → Row
-highPassed row = record {
-  mark = row .mark;
-  total = row .total;
-  deviation = row .deviation;
-  squares = row .squares;
-  lows = row .lows;
-  highs = row .highs + 1;
+highPassed row = withPassed row (row .lows) (row .highs + 1)
+
+-- its sums are the same
+still-sums : {lows highs : List ℕ} {total : ℕ} {row : Row} {a b : ℕ} → Sums lows highs total row → a ≤ length lows → b ≤ length lows
+    → Sums lows highs total (withPassed row a b)
+still-sums sums few-lows few-highs = record {
+  share = sums .share;
+  totals = sums .totals;
+  deviations = sums .deviations;
+  squares = sums .squares;
+  fewLows = few-lows;
+  fewHighs = few-highs;
 }
 
 module _ {lows highs starts stops : List ℕ} {total : ℕ} (sound : Sound lows highs total) (risen : Risen lows highs starts stops) where
@@ -61,62 +69,44 @@ module _ {lows highs starts stops : List ℕ} {total : ℕ} (sound : Sound lows 
         (passes-none starts-rise (walk .partedLows) below-low)
         (passes-none stops-rise (walk .partedHighs) below-high)
 
-    module _ (more : row .lows < length starts)
-        (low : row .highs < length stops → getD starts (row .lows) 0 ≤ getD stops (row .highs) 0) where
-      -- where a low comes first, no bound lies before it
-      pub low-span : SpanTo lows highs row (getD starts (row .lows) 0)
-      low-span = span-next _ (next-up starts-rise (walk .partedLows) more) (λ h. le-refl _) low
+    module _ (first : (row .lows < length starts) × (row .highs < length stops → getD starts (row .lows) 0 ≤ getD stops (row .highs) 0)) where
+      low-up : row .mark ≤ getD starts (row .lows) 0
+      low-up = next-up starts-rise (walk .partedLows) (first .0)
 
-      pub low-share : getD starts (row .lows) 0 ≤ greatestShare
-      low-share = start-small (row .lows) more
+      -- where a low comes first, no bound lies before it
+      pub low-next : SpanTo lows highs row (getD starts (row .lows) 0) × (getD starts (row .lows) 0 ≤ greatestShare)
+      low-next = (span-next _ low-up (λ h. le-refl _) (first .1), start-small (row .lows) (first .0))
 
       -- and the row for it has one low more passed
       pub low-stepped : {after : Row} → Moved lows highs total row (getD starts (row .lows) 0) after
           → Stepped lows highs starts stops total row (lowPassed after)
       low-stepped m = record {
-        span = rw (m .at) low-span;
+        span = rw (m .at) (low-next .0);
         walk = record {
-          sums = record {
-            share = m .sums .share;
-            totals = m .sums .totals;
-            deviations = m .sums .deviations;
-            squares = m .sums .squares;
-            fewLows = omega (arith, m .sameLows, risen .startsFrom .same);
-            fewHighs = m .sums .fewHighs;
-          };
-          partedLows = rw (m .at, m .sameLows, add-one) (passed-one starts-rise (walk .partedLows) more);
-          partedHighs = rw (m .at, m .sameHighs)
-              (passed-none stops-rise (walk .partedHighs) (next-up starts-rise (walk .partedLows) more) low);
+          sums = still-sums (m .sums) (omega (arith, m .sameLows, risen .startsFrom .same)) (m .sums .fewHighs);
+          partedLows = rw (m .at, m .sameLows, add-one) (passed-one starts-rise (walk .partedLows) (first .0));
+          partedHighs = rw (m .at, m .sameHighs) (passed-none stops-rise (walk .partedHighs) low-up (first .1));
         };
         counted = omega (arith, m .sameLows, m .sameHighs);
       }
 
-    module _ (more : row .highs < length stops)
-        (high : row .lows < length starts → getD stops (row .highs) 0 ≤ getD starts (row .lows) 0) where
-      -- where a high comes first, no bound lies before it
-      pub high-span : SpanTo lows highs row (getD stops (row .highs) 0)
-      high-span = span-next _ (next-up stops-rise (walk .partedHighs) more) high (λ h. le-refl _)
+    module _ (first : (row .highs < length stops) × (row .lows < length starts → getD stops (row .highs) 0 ≤ getD starts (row .lows) 0)) where
+      high-up : row .mark ≤ getD stops (row .highs) 0
+      high-up = next-up stops-rise (walk .partedHighs) (first .0)
 
-      pub high-share : getD stops (row .highs) 0 ≤ greatestShare
-      high-share = stop-small (row .highs) more
+      -- where a high comes first, no bound lies before it
+      pub high-next : SpanTo lows highs row (getD stops (row .highs) 0) × (getD stops (row .highs) 0 ≤ greatestShare)
+      high-next = (span-next _ high-up (first .1) (λ h. le-refl _), stop-small (row .highs) (first .0))
 
       -- and the row for it has one high more passed
       pub high-stepped : {after : Row} → Moved lows highs total row (getD stops (row .highs) 0) after
           → Stepped lows highs starts stops total row (highPassed after)
       high-stepped m = record {
-        span = rw (m .at) high-span;
+        span = rw (m .at) (high-next .0);
         walk = record {
-          sums = record {
-            share = m .sums .share;
-            totals = m .sums .totals;
-            deviations = m .sums .deviations;
-            squares = m .sums .squares;
-            fewLows = m .sums .fewLows;
-            fewHighs = omega (arith, m .sameHighs, risen .stopsFrom .same, sound .paired);
-          };
-          partedLows = rw (m .at, m .sameLows)
-              (passed-none starts-rise (walk .partedLows) (next-up stops-rise (walk .partedHighs) more) high);
-          partedHighs = rw (m .at, m .sameHighs, add-one) (passed-one stops-rise (walk .partedHighs) more);
+          sums = still-sums (m .sums) (m .sums .fewLows) (omega (arith, m .sameHighs, risen .stopsFrom .same, sound .paired));
+          partedLows = rw (m .at, m .sameLows) (passed-none starts-rise (walk .partedLows) high-up (first .1));
+          partedHighs = rw (m .at, m .sameHighs, add-one) (passed-one stops-rise (walk .partedHighs) (first .0));
         };
         counted = omega (arith, m .sameLows, m .sameHighs);
       }

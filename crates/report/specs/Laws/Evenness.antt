@@ -8,15 +8,16 @@ use Rattle.model.specs.Laws.Lists.{ranges-at}
 use Rattle.model.specs.Laws.Plans.{found-plan, plan-found, least-above}
 use Rattle.model.specs.Levels.{levelled}
 use Rattle.model.specs.Shares.{Ranges}
-use Rattle.works.specs.Consistency.{Sound, SoundGroup, Consistent}
+use Rattle.works.specs.Consistency.{Sound, Consistent}
 use Rattle.works.specs.Laws.Members.{gather-length}
 use Rattle.works.specs.Laws.Passes.{sound-inside}
 use Rattle.works.specs.Laws.Settled.{settled-inside, settled-consistent}
 use Rattle.works.specs.Laws.Turns.{gathered}
 use Rattle.works.specs.Settling.{Outcome, settle}
-use Rattle.works.specs.Tables.{Table, units, lowOf, highOf, lowsOf, highsOf, unitOf}
+use Rattle.works.specs.Tables.{Table, units, lowOf, highOf, lowsOf, highsOf}
 use Rattle.report.specs.Reports.{levelledLine, groupLines}
 use Rattle.report.specs.Evenness.{Evenest, EvenLines}
+use Rattle.groups.specs.Memberships.{SoundGroup, unitOf}
 
 module _ {groups : List Group} {table : Table} (sound : Sound groups table) (consistent : Consistent groups table) where
   -- the levelled shares are evenest

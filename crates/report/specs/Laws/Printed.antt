@@ -28,8 +28,8 @@ use Rattle.report.specs.Program.{printedRead, printedOf}
 use Rattle.report.specs.Laws.Promises.{reports}
 use Rattle.report.specs.Reports.{reportOf, printed}
 use Rattle.report.specs.declared.Reporting.{Reporting}
-use Rattle.report.specs.declared.Reporting.the-variants.{Written, NoPlan, Refused}
-use Rattle.report.specs.Inner.Printed.{Opened}
+use Rattle.report.specs.declared.Reporting.the-variants.{Written, NoPlan}
+use Rattle.report.specs.Inner.Printed.{Opened, sizePrinted, bufferPrinted}
 
 -- a refusal's line at the start of a buffer, where it is what is printed
 pub refusal-printed : {bytes line entry buffer exit : List ℕ} {size : ℕ} → bytes ≡ line → buffer ≡ entry → size ≡ length line
@@ -135,35 +135,11 @@ module _ {text lows highs : List ℕ} {scratch : ℕ} (opened : Opened text lows
     leaves : {other : Reported} → outcome ≡ other → exit ≡ other .buffer
     leaves e = ap (λ (r : Reported). r .buffer) (is ∙ e)
 
-    -- a report that is written is what the program prints
-    pub written-prints : {size passes : ℕ} → answer ≡ Written size passes
-        → (size ≡ length (printedOf text)) × (exit ≡ printedOf text ++ drop size buffer)
-    written-prints {size} {passes} writes = by (by-end (ends cleared))
+    -- what is printed of the answer is what the program prints
+    pub answer-prints : {size : ℕ} {final : List ℕ} → size ≡ sizePrinted answer → final ≡ bufferPrinted answer exit
+        → (size ≡ length (printedOf text)) × (final ≡ printedOf text ++ drop size buffer)
+    answer-prints {size} {final} counted holds = by (by-end (ends cleared))
       where
-        by : Prints → (size ≡ length (printedOf text)) × (exit ≡ printedOf text ++ drop size buffer)
-        by (Prints.written more _ _ e) =
-            let same : Written size passes ≡ Written (length (printedOf text)) more = sym writes ∙ answers e in
-            let counted : size ≡ length (printedOf text) = cc in
-            (counted, leaves e ∙ ap (λ (k : ℕ). printedOf text ++ drop k buffer) (sym counted))
-        by (Prints.none number place more line e) = absurd (let z : _≡_ {A = ℕ} 0 1 = cc (writes, answers e) in omega arith)
-
-    -- without a plan the refusal's line is, and the buffer holds what it held
-    pub none-prints : {number place passes : ℕ} → answer ≡ NoPlan number place passes
-        → (printedOf text ≡ refusalLine number place) × (exit ≡ buffer)
-    none-prints {number} {place} {passes} refuses = by (by-end (ends cleared))
-      where
-        by : Prints → (printedOf text ≡ refusalLine number place) × (exit ≡ buffer)
-        by (Prints.written more _ _ e) = absurd (let z : _≡_ {A = ℕ} 0 1 = cc (refuses, answers e) in omega arith)
-        by (Prints.none other there more line e) =
-            let same : NoPlan number place passes ≡ NoPlan other there more = sym refuses ∙ answers e in
-            let p : other ≡ number = cc in
-            let q : there ≡ place = cc in
-            (line ∙ rw (p, q), leaves e)
-
-    -- no check refuses
-    pub never-refused : {refusal : Refusal} → answer ≡ Refused refusal → ⊥
-    never-refused refuses = by (by-end (ends cleared))
-      where
-        by : Prints → ⊥
-        by (Prints.written more _ _ e) = let z : _≡_ {A = ℕ} 0 1 = cc (refuses, answers e) in omega arith
-        by (Prints.none other there more line e) = let z : _≡_ {A = ℕ} 0 1 = cc (refuses, answers e) in omega arith
+        by : Prints → (size ≡ length (printedOf text)) × (final ≡ printedOf text ++ drop size buffer)
+        by (Prints.written passes _ _ e) = rw (holds, counted, answers e, leaves e) (refl, refl)
+        by (Prints.none number place passes line e) = rw (holds, counted, answers e, leaves e, line) (refl, refl)

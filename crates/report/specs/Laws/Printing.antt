@@ -1,40 +1,56 @@
 -- Printing the lines of a flat list's groups, one after another. Assumes nothing.
 use Prim.Native.Nat.{ℕ, suc, _+_, _≤_, _<_}
 use mathlib.Core.List.{List, [], _∷_, flatten, List·Memᴰ·head, List·Memᴰ·tail}
-use mathlib.Core.Path.{_≡_, refl, sym, ap, subst, _∙_}
+use mathlib.Core.Path.{_≡_, refl, sym, subst, _∙_}
 use native.Mathlib.Numerals.{add-one}
 use native.Mathlib.Omega.{arith}
+use borrow.Author.Tests.{le-leb}
 use lib.ListN.{length, take, drop}
-use lib.Seq.{length-take-le}
+use lib.Seq.{take-at}
+use Rattle.group.specs.Laws.Sound.{levelled-length}
+use Rattle.group.specs.Levelling.{levelledTo, planAfter}
 use Rattle.group.specs.Sound.{greatestCount}
+use Rattle.group.specs.declared.Levelling.{Levelling}
+use Rattle.group.specs.declared.Levelling.the-variants.{Levelled}
 use Rattle.groups.specs.Inner.Flat.{storedAt, groupIn, groupsIn}
 use Rattle.groups.specs.Laws.Walk.{Walk, Next, walk-start, walk-end, walk-next}
 use Rattle.groups.specs.declared.Stored.{Stored}
+use Rattle.model.specs.Figures.{figuresOf}
 use Rattle.model.specs.Groups.{Group}
+use Rattle.model.specs.Levels.{level, levelled}
 use Rattle.print.specs.Laws.Written.{Rest, begin, next, done}
 use Rattle.print.specs.Inner.Written.{Wrote, Room}
 use Rattle.works.specs.Laws.Members.{gather-length}
-use Rattle.works.specs.Tables.{Table, size}
+use Rattle.groups.specs.Memberships.{size}
+use Rattle.works.specs.Tables.{Table, lowsOf, highsOf}
 use Rattle.report.specs.Ready.{Levelable, AllLevelable}
-use Rattle.report.specs.Inner.Ready.{Printable, Rooms, Workspace}
-use Rattle.report.specs.Reports.{lineOf, groupLines}
+use Rattle.report.specs.Inner.Ready.{Printable, LevelledIn, lineOfLevelling}
+use Rattle.report.specs.Reports.{levelledLine, lineOf, groupLines}
 
 module _ {table : Table} {group : Group} (levelable : Levelable table group) where
   -- a group that can be levelled has at most 256 members
   pub count-few : size group ≤ greatestCount
   count-few = omega (arith, gather-length (table .lows) (group .members), levelable .shares .sound .few)
 
-  -- working lists have room for them
-  pub rooms : {lows highs plan members : List ℕ} {count : ℕ} → Workspace lows highs plan → members ≡ group .members → size group ≡ count
-      → Rooms (length members) (take count lows) (take count highs) plan
-  rooms {lows} {highs} {members = members} {count} space is-members counted =
-      let few : count ≤ greatestCount = omega (arith, count-few) in
-      let sized : length members ≡ count = ap length is-members ∙ counted in
-      record {
-        forLows = omega (arith, space .forLows, length-take-le count lows (omega (arith, space .forLows)));
-        forHighs = omega (arith, space .forHighs, length-take-le count highs (omega (arith, space .forHighs)));
-        forPlan = omega (arith, space .forPlan);
-      }
+  -- levelling it answers with the level, the figures and the levelled shares
+  pub levelled-in : {answer : Levelling} (plan : List ℕ) {exit : List ℕ} → answer ≡ levelledTo (lowsOf table group) (highsOf table group) (group .total)
+      → exit ≡ planAfter answer (levelled (lowsOf table group) (highsOf table group) (group .total)) plan
+      → LevelledIn table group answer exit
+  unfolding levelledTo
+  levelled-in {answer} plan answers leaves =
+      let lows : List ℕ = lowsOf table group in
+      let highs : List ℕ = highsOf table group in
+      let all : List ℕ = levelled lows highs (group .total) in
+      let is : answer ≡ Levelled (record { copies = level lows highs (group .total) }) (figuresOf (length lows) (group .total) all) =
+      answers ∙ rw (le-leb _ _ (levelable .shares .low), le-leb _ _ (levelable .shares .high)) in
+      let as-many : length all ≡ size group = levelled-length (levelable .shares .sound) (group .total) ∙ gather-length (table .lows) (group .members) in
+      record { answers = is; holds = rw (leaves, is) (take-at all (drop (length all) plan) (size group) as-many) }
+
+-- its line is the one defined
+pub levelled-line : {table : Table} {group : Group} {count : ℕ} {answer : Levelling} {plan : List ℕ} (number : ℕ) → size group ≡ count
+    → LevelledIn table group answer plan → lineOfLevelling number answer (take count plan) ≡ lineOf number table group
+unfolding levelledLine
+levelled-line number counted levelled = rw (← counted, levelled .answers, levelled .holds)
 
 module _ (flat : List ℕ) (count : ℕ) (table : Table) (entry : List ℕ) (start : ℕ) where
   abbrev groups : List Group

@@ -9,14 +9,14 @@ use Rattle.group.specs.Sound as one
 use Rattle.group.specs.Laws.Sound as laws
 use Rattle.group.specs.declared.Check.{Check}
 use Rattle.group.specs.declared.Check.the-variants.{Passed, Failed}
-use Rattle.groups.specs.Memberships.{memberships}
+use Rattle.groups.specs.Memberships.{memberships, SoundGroup}
 use Rattle.groups.specs.Inner.Flat.{groupsIn}
 use Rattle.groups.specs.Laws.Reading.{groups-counted}
 use Rattle.job.specs.Job.{mostUnits, mostGroups, mostMemberships}
 use Rattle.model.specs.Groups.{Group}
 use Rattle.model.specs.Laws.Levelled.{within-sum-low, within-sum-high}
 use Rattle.works.specs.Calls.{Settlement, settlement, checkTable, leaving, afterCheck, settleJob}
-use Rattle.works.specs.Consistency.{SoundGroup, Sound, Consistent, PlanIn}
+use Rattle.works.specs.Consistency.{Sound, Consistent, PlanIn}
 use Rattle.works.specs.Laws.Checked.{passed-room, passed-opening}
 use Rattle.works.specs.Laws.Sizes.{size-few}
 use Rattle.works.specs.Laws.Inside.{widths-sums}
@@ -27,10 +27,11 @@ use Rattle.works.specs.Laws.Turns.{gathered}
 use Rattle.works.specs.Inner.Asked.{Prepared}
 use Rattle.works.specs.Settling.{Outcome, passesOf, settle}
 use Rattle.works.specs.Tables.{Table, tableOf, units, lowsOf, highsOf}
+use Rattle.works.specs.declared.Settling.{Settling}
 use Rattle.works.specs.declared.Settling.the-variants as works
 use Rattle.report.specs.Laws.Evenness.{levelled-evenest}
 use Rattle.report.specs.Ready.{Levelable, Reportable}
-use Rattle.report.specs.Inner.Ready.{WithinLimits}
+use Rattle.report.specs.Inner.Ready.{WithinLimits, Answerable}
 
 -- a group that has a plan in the table can be levelled there
 levelable : {table : Table} {group : Group} {xs : List ℕ} → SoundGroup (units table) group → one.Sound (lowsOf table group) (highsOf table group)
@@ -130,7 +131,7 @@ module _ {flat : List ℕ} {count unitCount : ℕ} (prepared : Prepared flat cou
       by-check Passed e is = by-outcome (settle groups opening) refl e is
 
 -- so the table that it leaves can be reported
-pub settles-reportable : {flat : List ℕ} {count unitCount passes : ℕ} {lows highs nextLows nextHighs : List ℕ} → WithinLimits flat count
+settles-reportable : {flat : List ℕ} {count unitCount passes : ℕ} {lows highs nextLows nextHighs : List ℕ} → WithinLimits flat count
     → Settles (groupsIn count flat) unitCount lows highs nextLows nextHighs passes
     → Reportable (groupsIn count flat) (tableOf (take unitCount nextLows) (take unitCount nextHighs)) passes
 settles-reportable {flat} {count} limits settles =
@@ -138,3 +139,17 @@ settles-reportable {flat} {count} limits settles =
     (omega (arith, groups-counted count 0 flat, limits .few-groups))
     (limits .few-memberships)
     (settles .settles)
+
+-- and so can its answer
+module _ {flat : List ℕ} {count unitCount : ℕ} (prepared : Prepared flat count unitCount) (limits : WithinLimits flat count)
+    (lows highs : List ℕ) (scratch : ℕ) {nextLows nextHighs : List ℕ} {answer : Settling} where
+  pub settles-answerable : settlement answer nextLows nextHighs ≡ settleJob (groupsIn count flat) unitCount lows highs scratch
+      → length nextLows ≡ length lows → length nextHighs ≡ length highs → Answerable (groupsIn count flat) unitCount answer nextLows nextHighs
+  settles-answerable is same-lows same-highs passes answers =
+      let settled : Settles (groupsIn count flat) unitCount lows highs nextLows nextHighs passes =
+      settles prepared lows highs scratch (rw answers at is) in
+      record {
+        forLows = omega (arith, settled .forLows, same-lows);
+        forHighs = omega (arith, settled .forHighs, same-highs);
+        reportable = settles-reportable limits settled;
+      }

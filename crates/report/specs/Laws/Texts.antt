@@ -19,31 +19,26 @@ use Rattle.groups.specs.Inner.Flat.{groupsIn}
 use Rattle.groups.specs.Laws.Reading.{flatten-groups}
 use Rattle.works.specs.Laws.Accepted.{read-settles, refused-settles}
 use Rattle.works.specs.Tables.{tableOf}
+use Rattle.works.specs.declared.Settling.{Settling}
 use Rattle.works.specs.declared.Settling.the-variants as works
-use Rattle.report.specs.Calls.{reported, reportSettled, reportText}
+use Rattle.report.specs.Calls.{reported, reportBy, reportSettled, reportText}
 use Rattle.report.specs.Inner.Ready.{WithinLimits}
 use Rattle.report.specs.Reports.{reportOf}
-use Rattle.report.specs.declared.Reporting.the-variants.{Written, NoPlan, Refused}
+use Rattle.report.specs.declared.Reporting.the-variants.{Written, Refused}
 
-module _ (groups : List Group) (units : ℕ) {settled : Settlement} {lows highs : List ℕ} (buffer : List ℕ) where
+module _ (groups : List Group) (units : ℕ) {lows highs : List ℕ} (buffer : List ℕ) where
   -- a settled table is reported
-  pub settled-written : {passes count : ℕ} {exit : List ℕ} → settlement (works.Settled passes) lows highs ≡ settled
+  pub answer-written : {answer : Settling} {passes count : ℕ} {exit : List ℕ} → answer ≡ works.Settled passes
       → count ≡ length (reportOf groups (tableOf (take units lows) (take units highs)) passes)
       → exit ≡ reportOf groups (tableOf (take units lows) (take units highs)) passes ++ drop count buffer
-      → reported (Written count passes) lows highs exit ≡ reportSettled groups units settled buffer
-  unfolding reportSettled
-  settled-written is counted holds = rw (← is, holds, counted)
+      → reported (Written count passes) lows highs exit ≡ reportBy groups units answer lows highs buffer
+  answer-written is counted holds = rw (is, holds, counted)
 
-  -- a refusal leaves the buffer
-  pub settled-none : {number place passes : ℕ} → settlement (works.NoPlan number place passes) lows highs ≡ settled
-      → reported (NoPlan number place passes) lows highs buffer ≡ reportSettled groups units settled buffer
+  -- what is reported of a settling is what is reported of its answer and the lists after it
+  pub settled-reports : {answer : Settling} {settled : Settlement} → settlement answer lows highs ≡ settled
+      → reportBy groups units answer lows highs buffer ≡ reportSettled groups units settled buffer
   unfolding reportSettled
-  settled-none is = rw (← is)
-
-  pub settled-refused : {refusal : Refusal} → settlement (works.Refused refusal) lows highs ≡ settled
-      → reported (Refused refusal) lows highs buffer ≡ reportSettled groups units settled buffer
-  unfolding reportSettled
-  settled-refused is = rw (← is)
+  settled-reports is = rw (← is)
 
 -- 1 for a buffer under 65,536 bytes
 pub buffer-short : (text lows highs : List ℕ) (scratch : ℕ) (buffer : List ℕ) → length buffer < mostBytes
@@ -107,4 +102,4 @@ module _ {text flat₀ flat : List ℕ} {answer : Reading} (scanned : GroupsScan
     unfolding reportText
     refused-reports refusal refuses =
         rw (le-leb mostBytes (length buffer) long)
-        (settled-refused _ _ buffer (refused-settles scanned refusal refuses tableLows tableHighs scratch))
+        (settled-reports _ _ buffer (refused-settles scanned refusal refuses tableLows tableHighs scratch))

@@ -7,6 +7,7 @@ use Rattle.text.specs.Kinds.{kindOf}
 use Rattle.text.specs.Parsed.{Parsed, parsed, failed}
 use Rattle.text.specs.Numbers.{isDigit}
 use Rattle.text.specs.Inner.Numbers.{held}
+use Rattle.text.specs.declared.Spot.{Spot}
 use Rattle.text.specs.declared.Step.{Step}
 use Rattle.text.specs.declared.Step.the-variants.{To, Stop}
 use Rattle.text.specs.declared.Number.{Number}
@@ -14,14 +15,18 @@ use Rattle.text.specs.declared.Number.the-variants.{Value, Missing}
 use Rattle.text.specs.declared.Found.{Found}
 use Rattle.text.specs.declared.Found.the-variants.{Is, Nothing}
 
+-- the bytes from a spot on
+abbrev pub left : List ℕ → Spot → List ℕ
+left text spot = drop (spot .at) text
+
 -- the spot after a word
 abbrev pub stepped : List ℕ → Step → Parsed (Unit {0})
-stepped text (To spot) = parsed tt (drop (spot .at) text)
+stepped text (To spot) = parsed tt (left text spot)
 stepped text Stop = failed
 
 -- a number and the spot after it
 abbrev pub counted : List ℕ → Number → Parsed ℕ
-counted text (Value v spot) = parsed v (drop (spot .at) text)
+counted text (Value v spot) = parsed v (left text spot)
 counted text Missing = failed
 
 -- the digit that stands first

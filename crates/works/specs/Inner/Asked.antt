@@ -6,9 +6,10 @@ use lib.ListN.{length}
 use Rattle.group.specs.Sound.{greatestCount}
 use Rattle.model.specs.Groups.{Group}
 use Rattle.model.specs.declared.Question.{Question}
-use Rattle.works.specs.Consistency.{SoundGroup, Sound}
+use Rattle.works.specs.Consistency.{Sound}
 use Rattle.groups.specs.Inner.Flat.{groupsIn, Holds}
 use Rattle.works.specs.Tables.{Table, Valid, units}
+use Rattle.groups.specs.Memberships.{SoundGroup}
 
 -- a group of this question and these members
 abbrev pub groupOf : Question → List ℕ → Group

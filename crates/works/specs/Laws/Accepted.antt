@@ -1,18 +1,12 @@
 -- The groups of an accepted job are sound over every table of its units. Assumes nothing.
-use Prim.Native.Nat.{ℕ, zero, suc, _<_}
-use mathlib.Core.Bool.{true, not}
+use Prim.Native.Nat.{ℕ}
 use mathlib.Core.List.{List, [], _∷_, _++_, List·Memᴰ, List·Memᴰ·not-nil, List·Memᴰ·cases-cons}
 use mathlib.Core.Logic.{⊎-elim}
-use mathlib.Core.Path.{_≡_, refl, sym, _∙_}
-use native.Mathlib.Nat.{le-of-suc-le-suc}
-use native.Mathlib.Omega.{arith}
-use borrow.Author.Tests.{eq-eqb, not-true}
-use lib.Dec.{eqb}
-use lib.ListN.{length, getD}
-use Rattle.job.specs.Laws.Distinct.{below-at}
+use mathlib.Core.Path.{_≡_, sym, _∙_}
+use lib.ListN.{length}
 use Rattle.groups.specs.Inner.Flat.{flatten, groupsIn}
 use Rattle.groups.specs.Laws.Reading.{flatten-groups, flatten-holds}
-use Rattle.job.specs.Job.{Job, holds, distinct, accepted, readJob}
+use Rattle.job.specs.Job.{Job, accepted, readJob}
 use Rattle.job.specs.Inner.Reading.{GroupsScanned}
 use Rattle.job.specs.Laws.Reading.{accepted-by, refused-by}
 use Rattle.job.specs.Sound as job
@@ -20,46 +14,20 @@ use Rattle.job.specs.Laws.Sound.{accepted-sound}
 use Rattle.job.specs.declared.Reading.{Reading}
 use Rattle.job.specs.declared.Reading.the-variants.{Read, Refused}
 use Rattle.model.specs.Groups.{Group}
-use Rattle.model.specs.Laws.Tests.{both-left, both-right, clash, either-right}
 use Rattle.model.specs.declared.Refusal.{Refusal}
 use Rattle.works.specs.Calls.{settlement, settleJob, settleText}
-use Rattle.works.specs.Consistency.{SoundGroup, Sound}
+use Rattle.works.specs.Consistency.{Sound}
 use Rattle.works.specs.Inner.Asked.{Prepared}
 use Rattle.works.specs.Tables.{Table, Valid, units}
+use Rattle.groups.specs.Memberships.{SoundGroup}
 use Rattle.works.specs.declared.Settling.the-variants as works
 
--- a number at a place of a list is found there
-found-at : (x : ℕ) (xs : List ℕ) (k : ℕ) → k < length xs → x ≡ getD xs k 0 → holds x xs ≡ true
-unfolding holds
-found-at x [] k h e = absurd (omega arith)
-found-at x (y ∷ ys) zero h e = rw (eq-eqb x y e)
-found-at x (y ∷ ys) (suc k) h e = either-right (eqb x y) (found-at x ys k (le-of-suc-le-suc h) e)
-
--- no two places of distinct numbers have the same
-distinct-at : (xs : List ℕ) → distinct xs ≡ true → (j k : ℕ) → j < length xs → k < length xs → getD xs j 0 ≡ getD xs k 0 → j ≡ k
-unfolding distinct
-distinct-at [] held j k p q e = absurd (omega arith)
-distinct-at (x ∷ xs) held zero zero p q e = refl
-distinct-at (x ∷ xs) held zero (suc k) p q e =
-    absurd (clash (found-at x xs k (le-of-suc-le-suc q) e) (not-true (holds x xs) (both-left _ _ held)))
-distinct-at (x ∷ xs) held (suc j) zero p q e =
-    absurd (clash (found-at x xs j (le-of-suc-le-suc p) (sym e)) (not-true (holds x xs) (both-left _ _ held)))
-distinct-at (x ∷ xs) held (suc j) (suc k) p q e =
-    omega (arith, distinct-at xs (both-right (not (holds x xs)) _ held) j k (le-of-suc-le-suc p) (le-of-suc-le-suc q) e)
-
--- a group of a sound job is sound
-group-sound : {count : ℕ} {group : Group} → job.SoundGroup count group → SoundGroup count group
-group-sound {count} {group} sound = record {
-  some = sound .some-member;
-  below = λ k h. below-at count (group .members) k (sound .all-units) h;
-  different = distinct-at (group .members) (sound .all-different);
-}
-
-each-sound : {count : ℕ} {groups : List Group} → job.SoundGroups count groups
+-- the groups of an accepted job are sound
+each-sound : {count : ℕ} {groups : List Group} → job.AcceptedGroups count groups
     → (group : Group) → List·Memᴰ group groups → SoundGroup count group
-each-sound job.SoundGroups.none group member = absurd (List·Memᴰ·not-nil member)
-each-sound (job.SoundGroups.also first others) group member =
-    ⊎-elim (λ here. rw here (group-sound first)) (λ later. each-sound others group later) (List·Memᴰ·cases-cons member)
+each-sound job.AcceptedGroups.none group member = absurd (List·Memᴰ·not-nil member)
+each-sound (job.AcceptedGroups.also first others) group member =
+    ⊎-elim (λ here. rw here (first .sound)) (λ later. each-sound others group later) (List·Memᴰ·cases-cons member)
 
 module _ (text : List ℕ) (found : Job) (reads : readJob text ≡ accepted found) where
   -- its groups are sound over every table of ranges of its units

@@ -11,11 +11,12 @@ use Rattle.model.specs.Figures.{deviation, spread}
 use Rattle.model.specs.Known.{known, holds, first, ten, three, sameList}
 use Rattle.model.specs.Levels.{clamped, totalAt, levelBelow, level, topped, remainder, levelled}
 use Rattle.model.specs.Plans.{hasPlan, turnOf, firstUp, firstDown, narrowedLow, narrowedHigh, tabulate, narrowedLows, narrowedHighs}
-use Rattle.works.specs.Consistency.{SoundGroup, Sound, Consistent, Suits}
+use Rattle.works.specs.Consistency.{Sound, Consistent, Suits}
 use Rattle.works.specs.Settling.{Outcome, narrowed, revise, passFrom, settleFrom, settle}
 use Rattle.works.specs.Tables.{widths, gather, scatter}
 use Rattle.works.specs.Laws.Settled.{settled-consistent}
 use Rattle.works.specs.Known.{holdsJob, allJobs, pair, pairs, pairTable, example, exampleTable, knownJobs}
+use Rattle.groups.specs.Memberships.{SoundGroup}
 
 -- every known share holds of the definitions
 pub known-jobs : allJobs knownJobs ≡ true

@@ -5,8 +5,7 @@ use mathlib.Core.Path.{_≡_}
 use native.Mathlib.Decide.{decLe}
 use native.Mathlib.Omega.{arith}
 use Rattle.model.specs.Groups.{Group}
-use Rattle.works.specs.Consistency.{SoundGroup}
-use Rattle.works.specs.Tables.{size, unitOf}
+use Rattle.groups.specs.Memberships.{SoundGroup, size, unitOf}
 
 -- the numbers but a, one after another
 abbrev without : ℕ → ℕ → ℕ

@@ -15,10 +15,11 @@ use Rattle.model.specs.declared.Turn.{Turn}
 use Rattle.model.specs.declared.Turn.the-variants.{Narrowed, NoPlan}
 use Rattle.works.specs.Inner.Asked.{Turning, Room, Workspace}
 use Rattle.works.specs.Settling.{revisedBy, narrowed, revise}
-use Rattle.works.specs.Tables.{Table, Named, tableOf, units, scatter, lowsOf, highsOf, size}
+use Rattle.works.specs.Tables.{Table, Named, tableOf, units, scatter, lowsOf, highsOf}
 use Rattle.works.specs.Laws.Sizes.{size-few}
 use Rattle.works.specs.Laws.Members.{gather-length}
 use Rattle.works.specs.Laws.Turns.{gathered}
+use Rattle.groups.specs.Memberships.{size}
 
 module _ {table : Table} {group : Group} (turning : Turning table group) where
   -- the members are units of the table

@@ -18,10 +18,11 @@ use Rattle.model.specs.Plans.{hasPlan, turnOf, narrowedLow, narrowedHigh}
 use Rattle.model.specs.Shares.{Ranges}
 use Rattle.model.specs.declared.Turn.{Turn}
 use Rattle.model.specs.declared.Turn.the-variants.{Narrowed, NoPlan}
-use Rattle.works.specs.Consistency.{SoundGroup, Supported, PlanIn}
+use Rattle.works.specs.Consistency.{Supported, PlanIn}
 use Rattle.works.specs.Settling.{Revised, revisedBy, narrowed, revise}
-use Rattle.works.specs.Tables.{Table, Valid, units, lowOf, highOf, Inside, Place, scatter, lowsOf, highsOf, size, unitOf}
+use Rattle.works.specs.Tables.{Table, Valid, units, lowOf, highOf, Inside, Place, scatter, lowsOf, highsOf}
 use Rattle.works.specs.Laws.Members.{gather-length, gather-at, scatter-length, scatter-other, scatter-at, place}
+use Rattle.groups.specs.Memberships.{SoundGroup, size, unitOf}
 
 module _ (table : Table) (group : Group) (valid : Valid table) (sound : SoundGroup (units table) group) where
   -- whether the group has a plan, and what narrowing keeps of member k

@@ -2,13 +2,15 @@
 use borrow.Author.Needs.{needs}
 use native.Mathlib.Omega.{arith}
 use mathlib.Core.Bool.{false}
-use mathlib.Core.Logic.{_≢_}
-use mathlib.Core.Path.{_≡_, sym, ap, _∙_}
+use mathlib.Core.List.{List}
+use mathlib.Core.Path.{_≡_, sym, _∙_}
+use Prim.Native.Nat.{ℕ}
 use Rattle.model.specs.Plans.{taken}
-use Rattle.model.specs.Laws.Tests.{clash}
+use Rattle.model.specs.declared.Limits.{Limits}
 use Rattle.group.specs.Inner.Edges.{Approach}
+use Rattle.group.specs.Inner.Flanks.{Search}
 use Rattle.group.specs.Laws.Edges.{nearest-reach, nearest-edge}
-use Rattle.group.specs.Laws.Flanks.{flanks-rising, flanks-falling}
+use Rattle.group.specs.Laws.Flanks.{flanking-of, row-edge}
 use Rattle.group.specs.Laws.Reaching.{Moved, probes, room, moved, share-reach}
 use Rattle.group.proofs.ends.farthest_taken.Statement.{statement}
 use Rattle.group.proofs.ends.farthest_taken.Tie as tie
@@ -38,89 +40,80 @@ module _ (c : tie.After-into-reach) where
   abbrev start : tie.Start
   start = c .before .before .before .before .before .before
 
-  way : Approach (start .args .lows .now) (start .args .highs .now) (start .args .table .now) (start .args .total) (start .args .limits) (start .args .i) (start .args .end) (start .args .share)
+  abbrev lows : List ℕ
+  lows = start .args .lows .now
+
+  abbrev highs : List ℕ
+  highs = start .args .highs .now
+
+  abbrev total : ℕ
+  total = start .args .question .total
+
+  abbrev limits : Limits
+  limits = start .args .question .limits
+
+  abbrev i : ℕ
+  i = start .args .share .member
+
+  way : Approach lows highs (start .args .table .now) total limits i (start .args .end) (start .args .share .value)
   way = start .pre
 
   there : Moved way (c .into-reach .result)
   there = moved way (c .into-reach .ensures)
 
-probe-requires : tie.Need-probe-requires
-probe-requires c κs =
-    let w = way c in
-    let t = there c in
-    (w .tabled .sound, (w .tabled .held, ((w .here, t .small), t .inReach)))
+last-within-requires : tie.Need-last-within-requires
+last-within-requires c κs = (probes (way c) _ (there c .small), there c .inReach .least)
+
+taken-at-requires : tie.Need-taken-at-requires
+taken-at-requires c κs =
+    let w = way (c .before) in
+    let t = there (c .before) in
+    record { sound = w .tabled .sound; held = w .tabled .held; here = w .here; small = t .small; reach = t .inReach; found = c .last-within .ensures }
 
 returns : tie.Need-returns
-returns c = nearest-reach (there (c .before .before) .nearest) (rw (← c .before .probe .ensures .0) (c .if1 .taken))
+returns c = nearest-reach (there (c .before .before .before) .nearest) (sym (c .before .taken-at .ensures) ∙ c .if1 .taken)
 
-last-within-requires : tie.Need-last-within-requires
-last-within-requires c κs =
-    let w = way (c .before .before) in
+last-within-requires-2 : tie.Need-last-within-requires-2
+last-within-requires-2 c κs =
+    let w = way (c .before .before .before) in
     (probes w _ (w .share-small), share-reach w .least)
 
--- the value in reach is not taken, and so is not the share
-module _ (c : tie.Else1) where
-  abbrev from : tie.After-into-reach
-  from = c .before .before
-
-  fails : taken (start from .args .lows .now) (start from .args .highs .now) (start from .args .total) (start from .args .limits) (start from .args .i) (from .into-reach .result) ≡ false
-  fails = rw (← c .before .probe .ensures .0) (c .if1 .left)
-
-  differ : from .into-reach .result ≢ start from .args .share
-  differ same = clash (way from .passes) (ap (taken (start from .args .lows .now) (start from .args .highs .now) (start from .args .total) (start from .args .limits) (start from .args .i)) (sym same) ∙ fails)
-
--- the way from the share to it
+-- the value in reach is not taken: the way from the share to it is searched
 module _ (e : tie.Else1) where
-  onward : Approach (start (from e) .args .lows .now) (start (from e) .args .highs .now) (start (from e) .args .table .now) (start (from e) .args .total) (start (from e) .args .limits) (start (from e) .args .i) (from e .into-reach .result) (start (from e) .args .share)
-  onward =
-      let w = way (from e) in
-      record { tabled = w .tabled; here = w .here; small = there (from e) .small; share-small = w .share-small; passes = w .passes }
+  abbrev from : tie.After-into-reach
+  from = e .before .before .before
 
-add-edge-between : tie.Need-add-edge-between
-add-edge-between c = search needs
+  fails : taken (lows from) (highs from) (total from) (limits from) (i from) (from .into-reach .result) ≡ false
+  fails = sym (e .before .taken-at .ensures) ∙ e .if1 .left
 
-edge-between-requires : tie.Need-edge-between-requires
-edge-between-requires c κs =
-    let l = c .before in
-    let e = l .before in
-    let w = way (from e) in (
-      onward e,
-      (
-        there (from e) .inReach,
-        (
-          fails e,
-          flanks-rising (w .tabled) _ (w .here) (there (from e) .small) (w .share-small) (c .if2 .taken) (e .before .probe .ensures .1) (l .last-within .ensures),
-        ),
-      ),
-    )
+  searched : Search (lows from) (highs from) (start from .args .table .now) (total from) (limits from) (i from) (from .into-reach .result) (start from .args .share .value)
+  searched =
+      let w = way from in
+      record {
+        way = record { tabled = w .tabled; here = w .here; small = there from .small; share-small = w .share-small; passes = w .passes };
+        fails = fails;
+        reach = there from .inReach;
+      }
+
+flanks-of-requires : tie.Need-flanks-of-requires
+flanks-of-requires c κs =
+    let few = way (from (c .before)) .tabled .sound .few in
+    (omega (arith, few, c .before .before .before .last-within .ensures .upTo), omega (arith, few, c .last-within2 .ensures .upTo))
+
+to-one-row-requires : tie.Need-to-one-row-requires
+to-one-row-requires c κs =
+    let e = c .before .before in
+    rw (c .flanks-of .ensures) (flanking-of (searched e) (e .before .before .last-within .ensures) (c .before .last-within2 .ensures))
+
+edge-requires : tie.Need-edge-requires
+edge-requires c κs = c .to-one-row .ensures .ends
 
 returns-2 : tie.Need-returns-2
 returns-2 c =
-    let e = c .before .before .before in
-    nearest-edge (there (from e) .nearest) (fails e) (way (from e) .passes) (c .edge-between .ensures)
-
-add-edge-between-2 : tie.Need-add-edge-between-2
-add-edge-between-2 c = search needs
-
-edge-between-requires-2 : tie.Need-edge-between-requires-2
-edge-between-requires-2 c κs =
-    let l = c .before in
-    let e = l .before in
-    let w = way (from e) in (
-      onward e,
-      (
-        there (from e) .inReach,
-        (
-          fails e,
-          flanks-falling (w .tabled) _ (w .here) (there (from e) .small) (w .share-small) (omega (arith, c .if2 .left, differ e)) (e .before .probe .ensures .1) (l .last-within .ensures),
-        ),
-      ),
-    )
-
-returns-3 : tie.Need-returns-3
-returns-3 c =
-    let e = c .before .before .before in
-    nearest-edge (there (from e) .nearest) (fails e) (way (from e) .passes) (c .edge-between2 .ensures)
+    let f = c .before .before in
+    let e = f .before .before in
+    nearest-edge (there (from e) .nearest) (fails e) (way (from e) .passes)
+    (row-edge (searched e) _ _ (f .flanks-of .ensures) (c .before .to-one-row .ensures) (c .edge .ensures))
 
 pub farthest-taken-spec : {M : Type 1} → statement M
 farthest-taken-spec =
@@ -132,12 +125,11 @@ farthest-taken-spec =
     shared-slice-read-high
     mul-last
     into-reach-requires
-    probe-requires
-    returns
     last-within-requires
-    add-edge-between
-    edge-between-requires
-    returns-2
-    add-edge-between-2
-    edge-between-requires-2
-    returns-3)
+    taken-at-requires
+    returns
+    last-within-requires-2
+    flanks-of-requires
+    to-one-row-requires
+    edge-requires
+    returns-2)

@@ -3,35 +3,29 @@ use borrow.Author.Needs.{needs}
 use native.Mathlib.Omega.{arith}
 use mathlib.Core.Bool.{Bool}
 use mathlib.Core.List.{List}
-use mathlib.Core.Logic.{_≢_}
-use mathlib.Core.Path.{_≡_, sym, ap, _∙_}
+use mathlib.Core.Path.{_≡_, refl, sym, _∙_}
 use Prim.Native.Nat.{ℕ, suc, _+_, _*_, _/_, _≤_, _<_}
 use lib.ListN.{length, getD}
-use Rattle.model.specs.Shares.{greatestShare}
 use Rattle.model.specs.Figures.{apart}
 use Rattle.model.specs.Levels.{clamp}
 use Rattle.model.specs.Plans.{taken}
 use Rattle.model.specs.Laws.Lists.{ranges-at}
 use Rattle.probe.specs.Inner.Rows.{rowAt}
-use Rattle.probe.specs.Inner.Probes.{pinnedTotal, InReach}
+use Rattle.probe.specs.Inner.Probes.{pinnedTotal}
 use Rattle.group.specs.Inner.Edges.{Straddle, Approach}
-use Rattle.group.specs.Laws.Edges.{Between, Amid, straddle-start, straddle-in, straddle-out, straddle-differ, halfway, amid-nearer}
-use Rattle.group.specs.Laws.Reaching.{between-reach}
-use Rattle.group.specs.Inner.Flanks.{Flanked}
-use Rattle.group.specs.Laws.Flanks.{flanks-row, flanks-small, flanks-between, flanks-found, flanks-in, flanks-out, flanks-few, flanks-end}
+use Rattle.group.specs.Inner.Flanks.{Flanking}
+use Rattle.group.specs.Laws.Edges.{Amid, straddle-start, straddle-in, straddle-out, halfway, amid-nearer}
+use Rattle.group.specs.Laws.Flanks.{flanks-row, flanks-between, flanks-spotted, flanks-in, flanks-out, flanks-few, flanks-end}
 use Rattle.group.proofs.ends.to_one_row.Statement.{statement}
 use Rattle.group.proofs.ends.to_one_row.Tie as tie
 
 abbrev Inv-loop : tie.InvT-loop
-Inv-loop lows highs table total limits i outside inside outer-row inner-row low high outer₀ inner₀ far₀ near₀ outer inner far near =
-    Straddle (taken lows highs total limits i) outside inside outer inner
-    × (outer ≤ greatestShare)
-    × (inner ≤ greatestShare)
-    × InReach table (2 * length lows) (getD lows i 0) (getD highs i 0) outer total
-    × Flanked table (2 * length lows) (getD lows i 0) (getD highs i 0) total outer inner far near
+Inv-loop lows highs table question member low high outer₀ inner₀ far₀ near₀ outer inner far near =
+    Straddle (taken lows highs (question .total) (question .limits) member) outer₀ inner₀ outer inner
+    × Flanking lows highs table (question .total) (question .limits) (record { member = member; outer = outer; inner = inner; far = far; near = near })
 
 abbrev μ-loop : tie.MeasureT-loop
-μ-loop lows highs table total limits i outside inside outer-row inner-row low high outer₀ inner₀ far₀ near₀ outer inner far near = apart far near
+μ-loop lows highs table question member low high outer₀ inner₀ far₀ near₀ outer inner far near = apart far near
 
 mul-low : tie.Need-mul-low Inv-loop μ-loop
 mul-low c = search needs
@@ -47,13 +41,13 @@ shared-slice-read-high c = search needs
 
 loop-holds : tie.Need-loop-holds Inv-loop μ-loop
 loop-holds c =
-    let s = c .before .before .before .before .before in
-    (straddle-start _ _ _ (s .pre .1 .1 .0) (s .pre .0 .passes), s .pre .0 .small, s .pre .0 .share-small, s .pre .1 .0, s .pre .1 .1 .1)
+    let p = c .before .before .before .before .before .pre in
+    (straddle-start _ _ _ (p .search .fails) (p .search .way .passes), p)
 
 rows-apart-requires : tie.Need-rows-apart-requires Inv-loop μ-loop
 rows-apart-requires c κs = search needs
 
--- the turn's start and the row halfway
+-- the row halfway
 module _ (c : tie.Then1 Inv-loop μ-loop) where
   abbrev turn : tie.At-loop Inv-loop μ-loop
   turn = c .before .before
@@ -64,53 +58,40 @@ module _ (c : tie.Then1 Inv-loop μ-loop) where
   abbrev lows : List ℕ
   lows = start .args .lows .now
 
-  abbrev highs : List ℕ
-  highs = start .args .highs .now
+  abbrev member : ℕ
+  member = start .args .flanks .member
 
   abbrev low : ℕ
-  low = getD lows (start .args .i) 0
+  low = getD lows member 0
 
   abbrev high : ℕ
-  high = getD highs (start .args .i) 0
+  high = getD (start .args .highs .now) member 0
 
   abbrev test : ℕ → Bool
-  test = taken lows highs (start .args .total) (start .args .limits) (start .args .i)
-
-  abbrev outer : ℕ
-  outer = turn .loop .outer
-
-  abbrev inner : ℕ
-  inner = turn .loop .inner
+  test = taken lows (start .args .highs .now) (start .args .question .total) (start .args .question .limits) member
 
   abbrev k : ℕ
   k = (turn .loop .far + turn .loop .near) / 2
 
-  way : Approach lows highs (start .args .table .now) (start .args .total) (start .args .limits) (start .args .i) (start .args .outside) (start .args .inside)
-  way = start .pre .0
-
-  differ : outer ≢ inner
-  differ = straddle-differ (turn .loop .inv .0)
+  way : Approach lows (start .args .highs .now) (start .args .table .now) (start .args .question .total) (start .args .question .limits) member (turn .loop .outer) (turn .loop .inner)
+  way = turn .loop .inv .1 .search .way
 
   amid : Amid (turn .loop .far) (turn .loop .near) k
   amid = halfway (omega arith)
 
   few : (turn .loop .far ≤ suc (2 * length lows)) × (turn .loop .near ≤ suc (2 * length lows))
-  few = flanks-few (way .tabled) (start .args .i) (way .here) (turn .loop .inv .1) (turn .loop .inv .2) (turn .loop .inv .4) differ
+  few = flanks-few (turn .loop .inv .1)
 
   nearer : (apart (turn .loop .far) k < apart (turn .loop .far) (turn .loop .near))
       × (apart k (turn .loop .near) < apart (turn .loop .far) (turn .loop .near))
       × (k ≤ suc (2 * length lows))
   nearer = amid-nearer (omega arith) (few .0) (few .1) amid
 
-  between : (turn .loop .near < turn .loop .far → (turn .loop .near < k) × (k < turn .loop .far))
-      × (turn .loop .far < turn .loop .near → (turn .loop .far < k) × (k < turn .loop .near))
-  between = (amid .falling, amid .rising)
+  inside-table : (k ≤ 2 * length lows) × (rowAt (start .args .table .now) k .total ≤ start .args .question .total + clamp low high (rowAt (start .args .table .now) k .mark))
+  inside-table = flanks-row (turn .loop .inv .1) amid
 
-  inside-table : (k ≤ 2 * length lows) × (rowAt (start .args .table .now) k .total ≤ start .args .total + clamp low high (rowAt (start .args .table .now) k .mark))
-  inside-table = flanks-row (way .tabled) (start .args .i) (way .here) (turn .loop .inv .1) (turn .loop .inv .2) (turn .loop .inv .4) differ between
-
-add-k : tie.Need-add-k Inv-loop μ-loop
-add-k c = omega (arith, few c, way c .tabled .sound .few)
+add-row : tie.Need-add-row Inv-loop μ-loop
+add-row c = omega (arith, few c, way c .tabled .sound .few)
 
 read-row-requires : tie.Need-read-row-requires Inv-loop μ-loop
 read-row-requires c κs = omega (arith, inside-table c .0, way c .tabled .held .room)
@@ -118,34 +99,19 @@ read-row-requires c κs = omega (arith, inside-table c .0, way c .tabled .held .
 value-at-requires : tie.Need-value-at-requires Inv-loop μ-loop
 value-at-requires c κs =
     let t = c .before in
-    let range = ranges-at (way t .tabled .sound .ranges) (start t .args .i) (way t .here) in
+    let range = ranges-at (way t .tabled .sound .ranges) (member t) (way t .here) in
     ((range .0, range .1, way t .tabled .sound .small), rw (c .read-row .ensures) (inside-table t .1))
 
--- the value there
-module _ (c : tie.After-value-at Inv-loop μ-loop) where
-  abbrev then1 : tie.Then1 Inv-loop μ-loop
-  then1 = c .before .before
+-- with the value there, the others are at the row
+abbrev then1 : tie.After-value-at Inv-loop μ-loop → tie.Then1 Inv-loop μ-loop
+then1 c = c .before .before
 
-  abbrev v : ℕ
-  v = c .value-at .result
-
-  is : pinnedTotal (rowAt (start then1 .args .table .now) (k then1)) (low then1) (high then1) v ≡ start then1 .args .total
-  is = rw (c .before .read-row .ensures) at (c .value-at .ensures)
-
-  small : v ≤ greatestShare
-  small = flanks-small (way then1 .tabled) (start then1 .args .i) (way then1 .here) (turn then1 .loop .inv .1) (turn then1 .loop .inv .2) (turn then1 .loop .inv .4) (differ then1) (between then1) is
-
-  lies : Between (outer then1) (inner then1) v
-  lies = flanks-between (way then1 .tabled) (start then1 .args .i) (way then1 .here) (turn then1 .loop .inv .1) (turn then1 .loop .inv .2) (turn then1 .loop .inv .4) (differ then1) (between then1) is
-
-  there : InReach (start then1 .args .table .now) (2 * length (lows then1)) (low then1) (high then1) v (start then1 .args .total)
-  there = between-reach (way then1) (turn then1 .loop .inv .2) (turn then1 .loop .inv .0 .passes) (turn then1 .loop .inv .3) (turn then1 .loop .inv .0 .fails) lies
+is : (c : tie.After-value-at Inv-loop μ-loop)
+    → pinnedTotal (rowAt (start (then1 c) .args .table .now) (k (then1 c))) (low (then1 c)) (high (then1 c)) (c .value-at .result) ≡ start (then1 c) .args .question .total
+is c = rw (c .before .read-row .ensures) at (c .value-at .ensures)
 
 taken-at-requires : tie.Need-taken-at-requires Inv-loop μ-loop
-taken-at-requires c κs =
-    let t = then1 c in
-    let found = flanks-found (way t .tabled) (start t .args .i) (way t .here) (turn t .loop .inv .1) (turn t .loop .inv .2) (turn t .loop .inv .4) (differ t) (between t) (is c) in
-    (way t .tabled .sound, (way t .tabled .held, ((way t .here, small c), (there c, found))))
+taken-at-requires c κs = flanks-spotted (turn (then1 c) .loop .inv .1) (amid (then1 c)) (is c)
 
 loop-less : tie.Need-loop-less Inv-loop μ-loop
 loop-less c = nearer (then1 (c .before .before)) .0
@@ -154,13 +120,9 @@ loop-again : tie.Need-loop-again Inv-loop μ-loop
 loop-again c =
     let a = c .before .before in
     let t = then1 a in
-    let inv = turn t .loop .inv in (
-      straddle-in (test t) _ _ _ _ _ (inv .0) (lies a) (rw (← c .before .taken-at .ensures) (c .if2 .taken)),
-      inv .1,
-      small a,
-      inv .3,
-      flanks-in (way t .tabled) (start t .args .i) (way t .here) (inv .1) (inv .2) (inv .4) (differ t) (between t) (is a),
-    )
+    let inv = turn t .loop .inv in
+    let passes = sym (c .before .taken-at .ensures) ∙ c .if2 .taken in
+    (straddle-in (test t) _ _ _ _ _ (inv .0) (flanks-between (inv .1) (amid t) (is a)) passes, flanks-in (inv .1) (amid t) (is a) passes)
 
 loop-less-2 : tie.Need-loop-less-2 Inv-loop μ-loop
 loop-less-2 c = nearer (then1 (c .before .before)) .1
@@ -169,34 +131,17 @@ loop-again-2 : tie.Need-loop-again-2 Inv-loop μ-loop
 loop-again-2 c =
     let a = c .before .before in
     let t = then1 a in
-    let inv = turn t .loop .inv in (
-      straddle-out (test t) _ _ _ _ _ (inv .0) (lies a) (rw (← c .before .taken-at .ensures) (c .if2 .left)),
-      small a,
-      inv .2,
-      there a,
-      flanks-out (way t .tabled) (start t .args .i) (way t .here) (inv .1) (inv .2) (inv .4) (differ t) (between t) (is a),
-    )
+    let inv = turn t .loop .inv in
+    let fails = sym (c .before .taken-at .ensures) ∙ c .if2 .left in
+    (straddle-out (test t) _ _ _ _ _ (inv .0) (flanks-between (inv .1) (amid t) (is a)) fails, flanks-out (inv .1) (amid t) (is a) fails)
 
 earlier-requires : tie.Need-earlier-requires Inv-loop μ-loop
 earlier-requires c κs = search needs
 
 returns : tie.Need-returns Inv-loop μ-loop
 returns c =
-    let turn = c .before .before .before in
-    let s = turn .before .before .before .before .before .before in
-    let inv = turn .loop .inv in
-    let way = s .pre .0 in
-    let rows = flanks-end (way .tabled) (s .args .i) (way .here) (inv .1) (inv .2) (inv .4) (straddle-differ (inv .0)) (omega arith) in
-    record {
-      straddle = inv .0;
-      ends = record {
-        way = record { tabled = way .tabled; here = way .here; small = inv .1; share-small = inv .2; passes = inv .0 .passes };
-        fails = inv .0 .fails;
-        reach = inv .3;
-        of-outer = rw (c .earlier .ensures) (rows .0);
-        of-inner = rw (c .earlier .ensures) (rows .1);
-      };
-    }
+    let inv = c .before .before .before .loop .inv in
+    record { same = refl; straddle = inv .0; ends = flanks-end (inv .1) (omega arith) (c .earlier .ensures) }
 
 pub to-one-row-spec : {M : Type 1} → statement M
 to-one-row-spec =
@@ -210,7 +155,7 @@ to-one-row-spec =
     shared-slice-read-high
     loop-holds
     rows-apart-requires
-    add-k
+    add-row
     read-row-requires
     value-at-requires
     taken-at-requires

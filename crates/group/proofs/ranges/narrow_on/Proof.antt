@@ -24,14 +24,14 @@ use Rattle.group.proofs.ranges.narrow_on.Statement.{statement}
 use Rattle.group.proofs.ranges.narrow_on.Tie as tie
 
 abbrev Inv-loop : tie.InvT-loop
-Inv-loop lows highs table starts₀ stops₀ total limits row v left₀ i₀ starts stops left i =
+Inv-loop lows highs table question starts₀ stops₀ row v left₀ i₀ starts stops left i =
     (i ≤ length lows)
-    × Filled (length lows) (narrowedLow lows highs total limits) i starts
-    × Filled (length lows) (narrowedHigh lows highs total limits) i stops
+    × Filled (length lows) (narrowedLow lows highs (question .total) (question .limits)) i starts
+    × Filled (length lows) (narrowedHigh lows highs (question .total) (question .limits)) i stops
     × Ahead lows highs v left₀ left i
 
 abbrev μ-loop : tie.MeasureT-loop
-μ-loop lows highs table starts₀ stops₀ total limits row v left₀ i₀ starts stops left i = length lows - i
+μ-loop lows highs table question starts₀ stops₀ row v left₀ i₀ starts stops left i = length lows - i
 
 -- the group's own total is in reach
 in-reach : (s : tie.Start Inv-loop μ-loop) → InReach (s .args .table .now) (2 * length (s .args .lows .now)) 0 0 0 (s .args .question .total)
@@ -39,12 +39,12 @@ in-reach s = shares-reach (s .pre .1 .0 .sound) (s .pre .1 .0 .held) (s .pre .0 
 
 level-on-requires : tie.Need-level-on-requires Inv-loop μ-loop
 level-on-requires c κs =
-    let s = c .before .before .before .before .before .before in
+    let s = c .before .before .before .before .before in
     (s .pre .1 .0 .sound, (s .pre .1 .0 .held, in-reach s))
 
 -- the start, seen from the level
 abbrev start : tie.After-level-on Inv-loop μ-loop → tie.Start Inv-loop μ-loop
-start c = c .before .before .before .before .before .before .before
+start c = c .before .before .before .before .before .before
 
 has-plan-requires : tie.Need-has-plan-requires Inv-loop μ-loop
 has-plan-requires c κs =
@@ -132,8 +132,8 @@ module _ (c : tie.After-clamp Inv-loop μ-loop) where
   next : Ahead lows highs v left (turn .loop .left - more) (i + 1)
   next = ahead-step lows highs i (omega arith) (omega arith) v left (turn .loop .left) (c .clamp .result) more (c .clamp .ensures) (c .before .extra .ensures) (turn .loop .inv .3)
 
-add-share : tie.Need-add-share Inv-loop μ-loop
-add-share c = omega (arith, share-at-small (from c .pre .0 .sound) (i c) (v c) (turn c .loop .left) (c .clamp .result) (more c) (omega arith) (c .clamp .ensures) (c .before .extra .ensures))
+add-value : tie.Need-add-value Inv-loop μ-loop
+add-value c = omega (arith, share-at-small (from c .pre .0 .sound) (i c) (v c) (turn c .loop .left) (c .clamp .result) (more c) (omega arith) (c .clamp .ensures) (c .before .extra .ensures))
 
 sub-left : tie.Need-sub-left Inv-loop μ-loop
 sub-left c = search needs
@@ -203,7 +203,7 @@ narrow-on-spec =
     shared-slice-read-high
     extra-requires
     clamp-requires
-    add-share
+    add-value
     sub-left
     farthest-taken-requires
     mul-starts

@@ -1,20 +1,36 @@
 -- The head, the members, the ending; a line with no member is none. Assumes nothing.
 use Prim.Native.Nat.{ℕ}
 use mathlib.Core.List.{List}
-use lib.ListN.{length, drop}
-use mathlib.Core.Path.{sym}
-use Rattle.text.specs.Parsed.{andThen, mapped}
+use lib.ListN.{length}
+use mathlib.Core.Path.{_≡_, sym}
+use Rattle.text.specs.Parsed.{parsed, andThen, mapped, word}
 use Rattle.text.specs.Laws.Parsed.{mapped-parsed}
-use Rattle.text.specs.Inner.Spots.{stepped}
+use Rattle.text.specs.Inner.Spots.{left, stepped}
 use Rattle.text.specs.Laws.Spots.{told}
-use Rattle.job.specs.Form.{membersAs, groupAs}
+use Rattle.job.specs.Form.{groupEnding, headAs, membersAs, groupAs}
 use Rattle.text.specs.Inner.Numbers.{held}
-use Rattle.job.specs.Inner.Seen.{headSeen}
+use Rattle.job.specs.Inner.LinesRead.{headSeen}
 use Rattle.job.specs.Inner.Tally.{tallied}
 use Rattle.job.specs.Laws.Tally.{grouped-none, grouped-some}
 use borrow.Author.Needs.{needs}
 use Rattle.job.proofs.lines.group_line.Statement.{statement}
 use Rattle.job.proofs.lines.group_line.Tie as tie
+
+-- what is left after the head
+abbrev after-head : tie.After-head → List ℕ
+after-head c = left (c .before .before .before .before .before .args .text .now) (c .head .given .0 .1 .0)
+
+-- what the line is read with
+abbrev start : tie.After-read-members → tie.Start
+start c = c .before .before .before .before .before .before .before .before
+
+-- the numbers that are read as members, and their tally
+abbrev Numbered : tie.After-read-members → Type 0
+Numbered c =
+    let rest = after-head (c .before .before .before) in
+    (ms : List ℕ)
+    × (membersAs held (length rest) rest ≡ parsed ms (left (start c .args .text .now) (c .read-members .result .next)))
+    × (tallied (start c .args .units) (start c .args .from) (start c .args .flat .now) ms ≡ record { count = c .read-members .result .count; within = c .read-members .result .within; flat = c .read-members .last .1 .1 .0 })
 
 head-line-requires : tie.Need-head-line-requires
 head-line-requires c κs = search needs
@@ -27,12 +43,20 @@ enum-told c = search needs
 
 returns : tie.Need-returns
 unfolding groupAs andThen mapped
-returns c =
-    let l = c .before .before in
-    rw (told (headSeen (l .before .before .before .args .text .now)) (l .head-line .ensures) (c .enum-told .given .1))
+returns c = rw (told (headSeen _) (c .before .before .head-line .ensures) (c .enum-told .given .1))
+
+-- the head is read
+head : (c : tie.After-head) → headAs held (left (c .before .before .before .before .before .args .text .now) (c .before .before .before .before .before .args .spot)) ≡ parsed (c .head .given .0 .0) (after-head c)
+head c = told (headSeen _) (c .before .before .head-line .ensures) (c .head .given .1)
 
 read-members-requires : tie.Need-read-members-requires
 read-members-requires c κs = search needs
+
+-- and as many members as stand there
+members : (c : tie.After-read-members) → Numbered c
+members c =
+    let rest = after-head (c .before .before .before) in
+    mapped-parsed (tallied (start c .args .units) (start c .args .from) (start c .args .flat .now)) (membersAs held (length rest) rest) (sym (c .read-members .ensures))
 
 slice-aggregate-word : tie.Need-slice-aggregate-word
 slice-aggregate-word c = search needs
@@ -52,15 +76,11 @@ same-length c = c .before .before .before .before .before .before .before .read-
 returns-2 : tie.Need-returns-2
 unfolding groupAs andThen mapped
 returns-2 c =
-    let w = c .before .before in
-    let m = w .before .before .before .before .before in
-    let h = m .before .before .before in
-    let l = h .before .before in
-    let a = l .before .before .before .args in
-    let text = a .text .now in
-    let rest : List ℕ = drop (h .head .given .0 .1 .0 .at) text in
-    let ms = mapped-parsed (tallied (a .units) (a .from) (a .flat .now)) (membersAs held (length rest) rest) (sym (m .read-members .ensures)) in
-    rw (told (headSeen text) (l .head-line .ensures) (h .head .given .1), ms .1, told (stepped text) (w .word .ensures) (c .enum-told2 .given .1))
+    rw (head (c .before .before .before .before .before .before .before .before .before .before), members (c .before .before .before .before .before .before .before) .1, told (stepped _) (c .before .before .word .ensures) (c .enum-told2 .given .1))
+
+-- and the line's end
+ending : (c : tie.After-next) → word groupEnding (left (start (c .before .before .before .before .before .before .before) .args .text .now) (c .before .before .before .before .before .before .before .read-members .result .next)) ≡ parsed tt (left (start (c .before .before .before .before .before .before .before) .args .text .now) (c .next .given .0 .0))
+ending c = told (stepped _) (c .before .before .word .ensures) (c .next .given .1)
 
 same-length-2 : tie.Need-same-length-2
 same-length-2 c = c .before .before .before .before .before .before .before .before .before .read-members .kept .1 .1 .0
@@ -68,16 +88,8 @@ same-length-2 c = c .before .before .before .before .before .before .before .bef
 returns-3 : tie.Need-returns-3
 unfolding groupAs andThen mapped
 returns-3 c =
-    let n = c .before .before in
-    let w = n .before .before in
-    let m = w .before .before .before .before .before in
-    let h = m .before .before .before in
-    let l = h .before .before in
-    let a = l .before .before .before .args in
-    let text = a .text .now in
-    let rest : List ℕ = drop (h .head .given .0 .1 .0 .at) text in
-    let ms = mapped-parsed (tallied (a .units) (a .from) (a .flat .now)) (membersAs held (length rest) rest) (sym (m .read-members .ensures)) in
-    rw (told (headSeen text) (l .head-line .ensures) (h .head .given .1), ms .1, told (stepped text) (w .word .ensures) (n .next .given .1), grouped-none (a .units) (a .from) (a .flat .now) _ (ms .0) _ _ (ms .2) (c .if1 .taken))
+    let m = members (c .before .before .before .before .before .before .before .before .before) in
+    rw (head (c .before .before .before .before .before .before .before .before .before .before .before .before), m .1, ending (c .before .before), grouped-none _ _ _ _ (m .0) _ _ (m .2) (c .if1 .taken))
 
 same-length-3 : tie.Need-same-length-3
 same-length-3 c = c .before .before .before .before .before .before .before .before .before .read-members .kept .1 .1 .0
@@ -85,17 +97,8 @@ same-length-3 c = c .before .before .before .before .before .before .before .bef
 returns-4 : tie.Need-returns-4
 unfolding groupAs andThen mapped
 returns-4 c =
-    let n = c .before .before in
-    let w = n .before .before in
-    let m = w .before .before .before .before .before in
-    let h = m .before .before .before in
-    let l = h .before .before in
-    let a = l .before .before .before .args in
-    let text = a .text .now in
-    let rest : List ℕ = drop (h .head .given .0 .1 .0 .at) text in
-    let ms = mapped-parsed (tallied (a .units) (a .from) (a .flat .now)) (membersAs held (length rest) rest) (sym (m .read-members .ensures)) in
-    rw (told (headSeen text) (l .head-line .ensures) (h .head .given .1), ms .1, told (stepped text) (w .word .ensures) (n .next .given .1))
-    (sym (grouped-some (a .units) (a .from) (a .flat .now) _ (ms .0) _ _ (ms .2) (c .if1 .left)))
+    let m = members (c .before .before .before .before .before .before .before .before .before) in
+    rw (head (c .before .before .before .before .before .before .before .before .before .before .before .before), m .1, ending (c .before .before)) (sym (grouped-some _ _ _ _ (m .0) _ _ (m .2) (c .if1 .left)))
 
 pub group-line-spec : {M : Type 1} → statement M
 group-line-spec =

@@ -1,10 +1,12 @@
 -- Item by item, each read where the one before ended. Assumes nothing.
+use mathlib.Core.Path.{_≡_}
 use borrow.Author.Needs.{needs}
-use Rattle.text.specs.Parsed.{andThen, mapped}
-use Rattle.text.specs.Inner.Spots.{stepped, counted}
+use Rattle.text.specs.Parsed.{parsed, andThen, mapped}
+use Rattle.text.specs.Inner.Numbers.{held}
+use Rattle.text.specs.Inner.Spots.{left, stepped, counted}
 use Rattle.text.specs.Laws.Spots.{told}
-use Rattle.job.specs.Form.{numberAs, headAs}
-use Rattle.job.specs.Inner.Seen.{limitSeen}
+use Rattle.job.specs.Form.{groupOpening, deviationOpening, spreadOpening, numberAs, limitAs, headAs}
+use Rattle.job.specs.Inner.LinesRead.{limitSeen}
 use Rattle.job.proofs.lines.head_line.Statement.{statement}
 use Rattle.job.proofs.lines.head_line.Tie as tie
 
@@ -22,10 +24,12 @@ enum-told c = search needs
 
 returns : tie.Need-returns
 unfolding headAs numberAs andThen mapped
-returns c =
-    let n₁ = c .before .before in
-    let text = n₁ .before .before .before .args .text .now in
-    rw (told (counted text) (n₁ .number-after .ensures) (c .enum-told .given .1))
+returns c = rw (told (counted _) (c .before .before .number-after .ensures) (c .enum-told .given .1))
+
+-- the total is read
+total : (c : tie.After-total) → numberAs held groupOpening (left (c .before .before .before .before .before .args .text .now) (c .before .before .before .before .before .args .spot)) ≡ parsed (c .total .given .0 .0) (left (c .before .before .before .before .before .args .text .now) (c .total .given .0 .1 .0))
+unfolding numberAs
+total c = told (counted _) (c .before .before .number-after .ensures) (c .total .given .1)
 
 slice-aggregate-limit-after : tie.Need-slice-aggregate-limit-after
 slice-aggregate-limit-after c = search needs
@@ -41,12 +45,11 @@ enum-told-2 c = search needs
 
 returns-2 : tie.Need-returns-2
 unfolding headAs numberAs andThen mapped
-returns-2 c =
-    let l₂ = c .before .before in
-    let t₁ = l₂ .before .before .before in
-    let n₁ = t₁ .before .before in
-    let text = n₁ .before .before .before .args .text .now in
-    rw (told (counted text) (n₁ .number-after .ensures) (t₁ .total .given .1), told (limitSeen text) (l₂ .limit-after .ensures) (c .enum-told2 .given .1))
+returns-2 c = rw (total (c .before .before .before .before .before), told (limitSeen _) (c .before .before .limit-after .ensures) (c .enum-told2 .given .1))
+
+-- the deviation limit after it
+deviation : (c : tie.After-deviation) → limitAs held deviationOpening (left (c .before .before .before .before .before .before .before .before .before .before .args .text .now) (c .before .before .before .before .before .total .given .0 .1 .0)) ≡ parsed (c .deviation .given .0 .0) (left (c .before .before .before .before .before .before .before .before .before .before .args .text .now) (c .deviation .given .0 .1 .0))
+deviation c = told (limitSeen _) (c .before .before .limit-after .ensures) (c .deviation .given .1)
 
 slice-aggregate-limit-after-2 : tie.Need-slice-aggregate-limit-after-2
 slice-aggregate-limit-after-2 c = search needs
@@ -62,14 +65,11 @@ enum-told-3 c = search needs
 
 returns-3 : tie.Need-returns-3
 unfolding headAs numberAs andThen mapped
-returns-3 c =
-    let l₃ = c .before .before in
-    let d₂ = l₃ .before .before .before in
-    let l₂ = d₂ .before .before in
-    let t₁ = l₂ .before .before .before in
-    let n₁ = t₁ .before .before in
-    let text = n₁ .before .before .before .args .text .now in
-    rw (told (counted text) (n₁ .number-after .ensures) (t₁ .total .given .1), told (limitSeen text) (l₂ .limit-after .ensures) (d₂ .deviation .given .1), told (limitSeen text) (l₃ .limit-after2 .ensures) (c .enum-told3 .given .1))
+returns-3 c = rw (total (c .before .before .before .before .before .before .before .before .before .before), deviation (c .before .before .before .before .before), told (limitSeen _) (c .before .before .limit-after2 .ensures) (c .enum-told3 .given .1))
+
+-- and the spread limit after that
+spread : (c : tie.After-spread) → limitAs held spreadOpening (left (c .before .before .before .before .before .before .before .before .before .before .before .before .before .before .before .args .text .now) (c .before .before .before .before .before .deviation .given .0 .1 .0)) ≡ parsed (c .spread .given .0 .0) (left (c .before .before .before .before .before .before .before .before .before .before .before .before .before .before .before .args .text .now) (c .spread .given .0 .1 .0))
+spread c = told (limitSeen _) (c .before .before .limit-after2 .ensures) (c .spread .given .1)
 
 slice-aggregate-word : tie.Need-slice-aggregate-word
 slice-aggregate-word c = search needs
@@ -85,30 +85,11 @@ enum-told-4 c = search needs
 
 returns-4 : tie.Need-returns-4
 unfolding headAs numberAs andThen mapped
-returns-4 c =
-    let w₄ = c .before .before in
-    let s₃ = w₄ .before .before .before in
-    let l₃ = s₃ .before .before in
-    let d₂ = l₃ .before .before .before in
-    let l₂ = d₂ .before .before in
-    let t₁ = l₂ .before .before .before in
-    let n₁ = t₁ .before .before in
-    let text = n₁ .before .before .before .args .text .now in
-    rw (told (counted text) (n₁ .number-after .ensures) (t₁ .total .given .1), told (limitSeen text) (l₂ .limit-after .ensures) (d₂ .deviation .given .1), told (limitSeen text) (l₃ .limit-after2 .ensures) (s₃ .spread .given .1), told (stepped text) (w₄ .word .ensures) (c .enum-told4 .given .1))
+returns-4 c = rw (total (c .before .before .before .before .before .before .before .before .before .before .before .before .before .before .before), deviation (c .before .before .before .before .before .before .before .before .before .before), spread (c .before .before .before .before .before), told (stepped _) (c .before .before .word .ensures) (c .enum-told4 .given .1))
 
 returns-5 : tie.Need-returns-5
 unfolding headAs numberAs andThen mapped
-returns-5 c =
-    let p₄ = c .before in
-    let w₄ = p₄ .before .before in
-    let s₃ = w₄ .before .before .before in
-    let l₃ = s₃ .before .before in
-    let d₂ = l₃ .before .before .before in
-    let l₂ = d₂ .before .before in
-    let t₁ = l₂ .before .before .before in
-    let n₁ = t₁ .before .before in
-    let text = n₁ .before .before .before .args .text .now in
-    rw (told (counted text) (n₁ .number-after .ensures) (t₁ .total .given .1), told (limitSeen text) (l₂ .limit-after .ensures) (d₂ .deviation .given .1), told (limitSeen text) (l₃ .limit-after2 .ensures) (s₃ .spread .given .1), told (stepped text) (w₄ .word .ensures) (p₄ .spot .given .1))
+returns-5 c = rw (total (c .before .before .before .before .before .before .before .before .before .before .before .before .before .before .before .before), deviation (c .before .before .before .before .before .before .before .before .before .before .before), spread (c .before .before .before .before .before .before), told (stepped _) (c .before .before .before .word .ensures) (c .before .spot .given .1))
 
 pub head-line-spec : {M : Type 1} → statement M
 head-line-spec =

@@ -1,10 +1,11 @@
 -- After the word stands any, or else a number. Assumes nothing.
+use mathlib.Core.Path.{_≡_}
 use borrow.Author.Needs.{needs}
-use Rattle.text.specs.Parsed.{andThen, mapped, orElse, word}
+use Rattle.text.specs.Parsed.{parsed, failed, andThen, mapped, orElse, word}
 use Rattle.text.specs.Numbers.{numberAfter}
-use Rattle.text.specs.Inner.Spots.{stepped, counted}
+use Rattle.text.specs.Inner.Spots.{left, stepped, counted}
 use Rattle.text.specs.Laws.Spots.{told}
-use Rattle.job.specs.Form.{numberAs, limitAs}
+use Rattle.job.specs.Form.{anyWord, numberAs, limitAs}
 use Rattle.job.proofs.lines.limit_after.Statement.{statement}
 use Rattle.job.proofs.lines.limit_after.Tie as tie
 
@@ -19,10 +20,11 @@ enum-told c = search needs
 
 returns : tie.Need-returns
 unfolding limitAs numberAs numberAfter andThen mapped orElse word
-returns c =
-    let w₁ = c .before .before in
-    let text = w₁ .before .before .before .args .text .now in
-    rw (told (stepped text) (w₁ .word .ensures) (c .enum-told .given .1))
+returns c = rw (told (stepped _) (c .before .before .word .ensures) (c .enum-told .given .1))
+
+-- the word is read
+opening : (c : tie.After-spot) → let a = c .before .before .before .before .before .args in word (a .bytes .now) (left (a .text .now) (a .spot)) ≡ parsed tt (left (a .text .now) (c .spot .given .0 .0))
+opening c = told (stepped _) (c .before .before .word .ensures) (c .spot .given .1)
 
 slice-aggregate-word : tie.Need-slice-aggregate-word
 slice-aggregate-word c = search needs
@@ -35,16 +37,14 @@ enum-known-any c = search needs
 
 returns-2 : tie.Need-returns-2
 unfolding limitAs numberAs numberAfter andThen mapped orElse word
-returns-2 c =
-    let a₂ = c .before in
-    let w₂ = a₂ .before .before in
-    let s₁ = w₂ .before .before .before in
-    let w₁ = s₁ .before .before in
-    let text = w₁ .before .before .before .args .text .now in
-    rw (told (stepped text) (w₁ .word .ensures) (s₁ .spot .given .1), told (stepped text) (w₂ .word2 .ensures) (a₂ .any .given .1))
+returns-2 c = rw (opening (c .before .before .before .before .before .before), told (stepped _) (c .before .before .before .word2 .ensures) (c .before .any .given .1))
 
 enum-told-2 : tie.Need-enum-told-2
 enum-told-2 c = search needs
+
+-- and any does not stand after it
+no-any : (c : tie.After-enum-told2) → word anyWord (left (c .before .before .before .before .before .before .before .before .before .before .args .text .now) (c .before .before .before .before .before .spot .given .0 .0)) ≡ failed
+no-any c = told (stepped _) (c .before .before .word2 .ensures) (c .enum-told2 .given .1)
 
 number-requires : tie.Need-number-requires
 number-requires c κs = search needs
@@ -57,26 +57,11 @@ enum-told-3 c = search needs
 
 returns-3 : tie.Need-returns-3
 unfolding limitAs numberAs numberAfter andThen mapped orElse word
-returns-3 c =
-    let n₃ = c .before .before in
-    let t₂ = n₃ .before in
-    let w₂ = t₂ .before .before in
-    let s₁ = w₂ .before .before .before in
-    let w₁ = s₁ .before .before in
-    let text = w₁ .before .before .before .args .text .now in
-    rw (told (stepped text) (w₁ .word .ensures) (s₁ .spot .given .1), told (stepped text) (w₂ .word2 .ensures) (t₂ .enum-told2 .given .1), told (counted text) (n₃ .number .ensures) (c .enum-told3 .given .1))
+returns-3 c = rw (opening (c .before .before .before .before .before .before .before .before), no-any (c .before .before .before), told (counted _) (c .before .before .number .ensures) (c .enum-told3 .given .1))
 
 returns-4 : tie.Need-returns-4
 unfolding limitAs numberAs numberAfter andThen mapped orElse word
-returns-4 c =
-    let m₃ = c .before in
-    let n₃ = m₃ .before .before in
-    let t₂ = n₃ .before in
-    let w₂ = t₂ .before .before in
-    let s₁ = w₂ .before .before .before in
-    let w₁ = s₁ .before .before in
-    let text = w₁ .before .before .before .args .text .now in
-    rw (told (stepped text) (w₁ .word .ensures) (s₁ .spot .given .1), told (stepped text) (w₂ .word2 .ensures) (t₂ .enum-told2 .given .1), told (counted text) (n₃ .number .ensures) (m₃ .most .given .1))
+returns-4 c = rw (opening (c .before .before .before .before .before .before .before .before .before), no-any (c .before .before .before .before), told (counted _) (c .before .before .before .number .ensures) (c .before .most .given .1))
 
 pub limit-after-spec : {M : Type 1} → statement M
 limit-after-spec =

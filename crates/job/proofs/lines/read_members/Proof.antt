@@ -1,5 +1,5 @@
 -- The members passed are in the tally; what is left is collected on. A turn spends bytes of the text. Assumes nothing.
-use Prim.Native.Nat.{ℕ, _+_, _-_, _≤_}
+use Prim.Native.Nat.{ℕ, _+_, _≤_, _<_}
 use mathlib.Core.Bool.{Bool, true}
 use mathlib.Core.List.{List}
 use mathlib.Core.Path.{_≡_, refl, sym, _∙_}
@@ -10,7 +10,7 @@ use Rattle.text.specs.Inner.Spots.{counted}
 use Rattle.text.specs.Laws.Spots.{told}
 use Rattle.job.specs.Form.{space, numberAs}
 use Rattle.job.specs.Inner.Tally.{Tally}
-use Rattle.job.specs.Laws.Tally.{collect, collect-tallied, collect-none, collect-next}
+use Rattle.job.specs.Laws.Tally.{noted, collect, collect-tallied, collect-none, collect-next}
 use native.Mathlib.Omega.{arith}
 use borrow.Author.Needs.{needs}
 use Rattle.job.proofs.lines.read_members.Statement.{statement}
@@ -35,6 +35,16 @@ loop-holds c =
     let a = c .before .before .args in
     (length (drop (a .spot .at) (a .text .now)), omega arith, omega (arith, length-drop (a .spot .at) (a .text .now)), refl, refl)
 
+-- what is left to collect once one more member is noted
+abbrev Noted : tie.At-loop Inv-loop μ-loop → ℕ → List ℕ → Type 0
+Noted l number rest =
+    let a = l .before .before .before .args in
+    let t = tally (l .loop .count) (l .loop .within) (l .loop .flat) in
+    (k : ℕ)
+    × (length rest ≤ k)
+    × (length rest < length (drop (l .loop .at) (a .text .now)))
+    × (collect (a .units) (a .from) (l .loop .inv .0) t (drop (l .loop .at) (a .text .now)) ≡ collect (a .units) (a .from) k (noted (a .units) (a .from) t number) rest)
+
 member-at-requires : tie.Need-member-at-requires Inv-loop μ-loop
 member-at-requires c κs = search needs
 
@@ -55,6 +65,13 @@ returns c =
     let none : numberAs held space (drop (l .loop .at) (a .text .now)) ≡ failed = told (counted (a .text .now)) (m .member-at .ensures) (c .enum-told .given .1) in
     sym (collect-none (a .units) (a .from) (l .loop .inv .0) _ _ none) ∙ l .loop .inv .4 ∙ collect-tallied (a .units) (a .from) _ (a .flat .now) _
 
+-- a member was read: it is noted, and the rest is collected on
+next : (c : tie.After-number Inv-loop μ-loop) → Noted (c .before .before .before) (c .number .given .0 .0) (drop (c .number .given .0 .1 .0 .at) (c .before .before .before .before .before .before .args .text .now))
+next c =
+    let l = c .before .before .before in
+    let a = c .before .before .before .before .before .before .args in
+    collect-next (a .units) (a .from) (l .loop .inv .0) _ (drop (l .loop .at) (a .text .now)) _ _ (l .loop .inv .1) (told (counted _) (c .before .before .member-at .ensures) (c .number .given .1))
+
 still-within-requires : tie.Need-still-within-requires Inv-loop μ-loop
 still-within-requires c κs = search needs
 
@@ -72,28 +89,14 @@ add-count c =
     omega (arith, l .loop .inv .2, l .before .before .before .pre .0)
 
 loop-less : tie.Need-loop-less Inv-loop μ-loop
-loop-less c =
-    let p = c .before .before in
-    let w = p .before .before in
-    let n = w .before .before in
-    let m = n .before .before in
-    let l = m .before in
-    let a = l .before .before .before .args in
-    let v = l .loop .inv in
-    let next = collect-next (a .units) (a .from) (v .0) (tally (l .loop .count) (l .loop .within) (l .loop .flat)) (drop (l .loop .at) (a .text .now)) _ _ (v .1) (told (counted (a .text .now)) (m .member-at .ensures) (n .number .given .1)) in
-    next .2
+loop-less c = next (c .before .before .before .before .before .before) .2
 
 loop-again : tie.Need-loop-again Inv-loop μ-loop
 loop-again c =
     let p = c .before .before in
-    let w = p .before .before in
-    let n = w .before .before in
-    let m = n .before .before in
-    let l = m .before in
-    let a = l .before .before .before .args in
-    let v = l .loop .inv in
-    let next = collect-next (a .units) (a .from) (v .0) (tally (l .loop .count) (l .loop .within) (l .loop .flat)) (drop (l .loop .at) (a .text .now)) _ _ (v .1) (told (counted (a .text .now)) (m .member-at .ensures) (n .number .given .1)) in
-    (next .0, next .1, omega (arith, next .2, v .2), p .put-member .kept .0 ∙ v .3, rw (p .put-member .ensures, w .still-within .ensures) (sym (next .3) ∙ v .4))
+    let n = next (c .before .before .before .before .before .before) in
+    let v = c .before .before .before .before .before .before .before .before .before .loop .inv in
+    (n .0, n .1, omega (arith, n .2, v .2), p .put-member .kept .0 ∙ v .3, rw (p .put-member .ensures, p .before .before .still-within .ensures) (sym (n .3) ∙ v .4))
 
 pub read-members-spec : {M : Type 1} → statement M
 read-members-spec =

@@ -1,9 +1,11 @@
 -- Item by item, each read where the one before ended. Assumes nothing.
+use mathlib.Core.Path.{_≡_}
 use borrow.Author.Needs.{needs}
-use Rattle.text.specs.Parsed.{andThen, mapped}
-use Rattle.text.specs.Inner.Spots.{stepped, counted}
+use Rattle.text.specs.Parsed.{parsed, andThen, mapped}
+use Rattle.text.specs.Inner.Numbers.{held}
+use Rattle.text.specs.Inner.Spots.{left, stepped, counted}
 use Rattle.text.specs.Laws.Spots.{told}
-use Rattle.job.specs.Form.{numberAs, unitAs}
+use Rattle.job.specs.Form.{unitOpening, space, numberAs, unitAs}
 use Rattle.job.proofs.lines.unit_line.Statement.{statement}
 use Rattle.job.proofs.lines.unit_line.Tie as tie
 
@@ -21,10 +23,12 @@ enum-told c = search needs
 
 returns : tie.Need-returns
 unfolding unitAs numberAs andThen mapped
-returns c =
-    let n₁ = c .before .before in
-    let text = n₁ .before .before .before .args .text .now in
-    rw (told (counted text) (n₁ .number-after .ensures) (c .enum-told .given .1))
+returns c = rw (told (counted _) (c .before .before .number-after .ensures) (c .enum-told .given .1))
+
+-- the low is read
+low : (c : tie.After-low) → numberAs held unitOpening (left (c .before .before .before .before .before .args .text .now) (c .before .before .before .before .before .args .spot)) ≡ parsed (c .low .given .0 .0) (left (c .before .before .before .before .before .args .text .now) (c .low .given .0 .1 .0))
+unfolding numberAs
+low c = told (counted _) (c .before .before .number-after .ensures) (c .low .given .1)
 
 slice-aggregate-number-after-2 : tie.Need-slice-aggregate-number-after-2
 slice-aggregate-number-after-2 c = search needs
@@ -40,12 +44,12 @@ enum-told-2 c = search needs
 
 returns-2 : tie.Need-returns-2
 unfolding unitAs numberAs andThen mapped
-returns-2 c =
-    let n₂ = c .before .before in
-    let l₁ = n₂ .before .before .before in
-    let n₁ = l₁ .before .before in
-    let text = n₁ .before .before .before .args .text .now in
-    rw (told (counted text) (n₁ .number-after .ensures) (l₁ .low .given .1), told (counted text) (n₂ .number-after2 .ensures) (c .enum-told2 .given .1))
+returns-2 c = rw (low (c .before .before .before .before .before), told (counted _) (c .before .before .number-after2 .ensures) (c .enum-told2 .given .1))
+
+-- and the high after it
+high : (c : tie.After-high) → numberAs held space (left (c .before .before .before .before .before .before .before .before .before .before .args .text .now) (c .before .before .before .before .before .low .given .0 .1 .0)) ≡ parsed (c .high .given .0 .0) (left (c .before .before .before .before .before .before .before .before .before .before .args .text .now) (c .high .given .0 .1 .0))
+unfolding numberAs
+high c = told (counted _) (c .before .before .number-after2 .ensures) (c .high .given .1)
 
 slice-aggregate-word : tie.Need-slice-aggregate-word
 slice-aggregate-word c = search needs
@@ -61,26 +65,11 @@ enum-told-3 c = search needs
 
 returns-3 : tie.Need-returns-3
 unfolding unitAs numberAs andThen mapped
-returns-3 c =
-    let w₃ = c .before .before in
-    let h₂ = w₃ .before .before .before in
-    let n₂ = h₂ .before .before in
-    let l₁ = n₂ .before .before .before in
-    let n₁ = l₁ .before .before in
-    let text = n₁ .before .before .before .args .text .now in
-    rw (told (counted text) (n₁ .number-after .ensures) (l₁ .low .given .1), told (counted text) (n₂ .number-after2 .ensures) (h₂ .high .given .1), told (stepped text) (w₃ .word .ensures) (c .enum-told3 .given .1))
+returns-3 c = rw (low (c .before .before .before .before .before .before .before .before .before .before), high (c .before .before .before .before .before), told (stepped _) (c .before .before .word .ensures) (c .enum-told3 .given .1))
 
 returns-4 : tie.Need-returns-4
 unfolding unitAs numberAs andThen mapped
-returns-4 c =
-    let s₃ = c .before in
-    let w₃ = s₃ .before .before in
-    let h₂ = w₃ .before .before .before in
-    let n₂ = h₂ .before .before in
-    let l₁ = n₂ .before .before .before in
-    let n₁ = l₁ .before .before in
-    let text = n₁ .before .before .before .args .text .now in
-    rw (told (counted text) (n₁ .number-after .ensures) (l₁ .low .given .1), told (counted text) (n₂ .number-after2 .ensures) (h₂ .high .given .1), told (stepped text) (w₃ .word .ensures) (s₃ .spot .given .1))
+returns-4 c = rw (low (c .before .before .before .before .before .before .before .before .before .before .before), high (c .before .before .before .before .before .before), told (stepped _) (c .before .before .before .word .ensures) (c .before .spot .given .1))
 
 pub unit-line-spec : {M : Type 1} → statement M
 unit-line-spec =

@@ -1,8 +1,13 @@
 -- Each test in turn. Assumes nothing.
 use borrow.Author.Tests.{le-leb, lt-leb, lt-ltb, le-ltb, not-true, not-false}
-use Prim.Native.Nat.{_+_}
-use mathlib.Core.Path.{sym, _∙_}
-use Rattle.job.specs.Job.{headVerdict}
+use Prim.Native.Nat.{ℕ, _+_}
+use mathlib.Core.Bool.{true}
+use mathlib.Core.Path.{_≡_, refl, sym, _∙_}
+use lib.Dec.{leb}
+use Rattle.model.specs.Figures.{greatestDeviation, greatestSpread, limitWithin}
+use Rattle.model.specs.Shares.{greatestTotal}
+use Rattle.job.specs.Job.{mostMemberships, unless, headVerdict}
+use Rattle.job.specs.Laws.Verdicts.{passes, fails}
 use native.Mathlib.Omega.{arith}
 use borrow.Author.Needs.{needs}
 use Rattle.job.proofs.steps.head_verdict.Statement.{statement}
@@ -10,25 +15,37 @@ use Rattle.job.proofs.steps.head_verdict.Tie as tie
 
 returns : tie.Need-returns
 unfolding headVerdict
-returns c = simp (lt-leb _ _ (c .if1 .taken))
+returns c = fails _ (lt-leb _ _ (c .if1 .taken))
+
+-- the total is in range
+total : (c : tie.Else1) → leb (c .before .before .args .head .total) greatestTotal ≡ true
+total c = le-leb _ _ (c .if1 .left)
 
 within-requires : tie.Need-within-requires
 within-requires c κs = search needs
 
 returns-2 : tie.Need-returns-2
 unfolding headVerdict
-returns-2 c = simp (le-leb _ _ (c .before .before .before .if1 .left), sym (c .before .within .ensures) ∙ not-true _ (c .if2 .taken))
+returns-2 c = passes 4 (total (c .before .before .before)) (fails _ (sym (c .before .within .ensures) ∙ not-true _ (c .if2 .taken)))
+
+-- so is the deviation limit
+deviation : (c : tie.Else2) → limitWithin (c .before .before .before .before .before .args .head .limits .deviation) greatestDeviation ≡ true
+deviation c = sym (c .before .within .ensures) ∙ not-false _ (c .if2 .left)
 
 within-requires-2 : tie.Need-within-requires-2
 within-requires-2 c κs = search needs
 
 returns-3 : tie.Need-returns-3
 unfolding headVerdict
-returns-3 c = simp (le-leb _ _ (c .before .before .before .before .before .if1 .left), sym (c .before .before .before .within .ensures) ∙ not-false _ (c .before .before .if2 .left), sym (c .before .within2 .ensures) ∙ not-true _ (c .if3 .taken))
+returns-3 c = passes 4 (total (c .before .before .before .before .before)) (passes 4 (deviation (c .before .before)) (fails _ (sym (c .before .within2 .ensures) ∙ not-true _ (c .if3 .taken))))
+
+-- and with the spread limit all three
+ranges : (c : tie.Else3) {v r : ℕ} → v ≡ r → let h = c .before .before .before .before .before .before .before .args .head in v ≡ unless (leb (h .total) greatestTotal) 4 (unless (limitWithin (h .limits .deviation) greatestDeviation) 4 (unless (limitWithin (h .limits .spread) greatestSpread) 4 r))
+ranges c e = passes 4 (total (c .before .before .before .before .before)) (passes 4 (deviation (c .before .before)) (passes 4 (sym (c .before .within2 .ensures) ∙ not-false _ (c .if3 .left)) e))
 
 returns-4 : tie.Need-returns-4
 unfolding headVerdict
-returns-4 c = simp (le-leb _ _ (c .before .before .before .before .before .before .before .if1 .left), sym (c .before .before .before .before .before .within .ensures) ∙ not-false _ (c .before .before .before .before .if2 .left), sym (c .before .before .before .within2 .ensures) ∙ not-false _ (c .before .before .if3 .left), le-ltb _ _ (c .if4 .taken))
+returns-4 c = ranges (c .before .before) (fails _ (le-ltb _ _ (c .if4 .taken)))
 
 sub-if5 : tie.Need-sub-if5
 sub-if5 c = search needs
@@ -36,16 +53,14 @@ sub-if5 c = search needs
 returns-5 : tie.Need-returns-5
 unfolding headVerdict
 returns-5 c =
-    let s = c .before .before .before .before .before .before .before .before .before .before .before in
-    let a = s .args in
-    simp (le-leb _ _ (c .before .before .before .before .before .before .before .before .before .if1 .left), sym (c .before .before .before .before .before .before .before .within .ensures) ∙ not-false _ (c .before .before .before .before .before .before .if2 .left), sym (c .before .before .before .before .before .within2 .ensures) ∙ not-false _ (c .before .before .before .before .if3 .left), lt-ltb _ _ (c .before .before .if4 .left), lt-leb (a .progress .memberships + a .count) 4096 (omega (arith, c .if5 .taken)))
+    let a = c .before .before .before .before .before .before .before .before .before .before .before .args in
+    ranges (c .before .before .before .before) (passes 6 (lt-ltb _ _ (c .before .before .if4 .left)) (fails _ (lt-leb (a .progress .memberships + a .count) mostMemberships (omega (arith, c .if5 .taken)))))
 
 returns-6 : tie.Need-returns-6
 unfolding headVerdict
 returns-6 c =
     let s = c .before .before .before .before .before .before .before .before .before .before .before in
-    let a = s .args in
-    simp (le-leb _ _ (c .before .before .before .before .before .before .before .before .before .if1 .left), sym (c .before .before .before .before .before .before .before .within .ensures) ∙ not-false _ (c .before .before .before .before .before .before .if2 .left), sym (c .before .before .before .before .before .within2 .ensures) ∙ not-false _ (c .before .before .before .before .if3 .left), lt-ltb _ _ (c .before .before .if4 .left), le-leb (a .progress .memberships + a .count) 4096 (omega (arith, c .if5 .left, s .pre .memberships)))
+    ranges (c .before .before .before .before) (passes 6 (lt-ltb _ _ (c .before .before .if4 .left)) (passes 6 (le-leb (s .args .progress .memberships + s .args .count) mostMemberships (omega (arith, c .if5 .left, s .pre .memberships))) refl))
 
 pub head-verdict-spec : {M : Type 1} → statement M
 head-verdict-spec =

@@ -1,6 +1,6 @@
 -- A line is tried as a unit line, then as a group line. Assumes nothing.
 use Rattle.text.specs.Laws.Spots.{told}
-use Rattle.job.specs.Inner.Seen.{unitSeen}
+use Rattle.job.specs.Inner.LinesRead.{unitSeen}
 use Rattle.job.specs.Laws.Taking.{line-is-group, line-is-unit}
 use borrow.Author.Needs.{needs}
 use Rattle.job.proofs.steps.take_line.Statement.{statement}

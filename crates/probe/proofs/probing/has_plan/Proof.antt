@@ -19,7 +19,7 @@ returns c =
     let s = c .before .before .before .before .before in
     let pin = unpinned (s .pre .0 .ranges) in
     c .met .ensures
-    ∙ decided (s .pre .0) pin (s .pre .1 .0) (s .args .limits) (s .pre .1 .1 .0 .least) (s .pre .1 .1 .0 .greatest) (c .before .pinned-figures .ensures .is pin)
+    ∙ decided (s .pre .0) pin (s .pre .1 .0) (s .args .question .limits) (s .pre .1 .1 .0 .least) (s .pre .1 .1 .0 .greatest) (c .before .pinned-figures .ensures .is pin)
 
 pub has-plan-spec : {M : Type 1} → statement M
 has-plan-spec = tie.close (tie.spec pinned-figures-requires met-requires returns)

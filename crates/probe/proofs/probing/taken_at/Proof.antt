@@ -1,4 +1,4 @@
--- The group with member i pinned to v has v's part in place of the member's own. Assumes nothing.
+-- The group with a member pinned to v has v's part in place of the member's own. Assumes nothing.
 use borrow.Author.Needs.{needs}
 use mathlib.Core.List.{List}
 use mathlib.Core.Path.{_∙_}
@@ -10,7 +10,7 @@ use Rattle.probe.specs.Laws.Verdicts.{decided}
 use Rattle.probe.proofs.probing.taken_at.Statement.{statement}
 use Rattle.probe.proofs.probing.taken_at.Tie as tie
 
--- member i pinned to v
+-- the member pinned to the value
 module _ (s : tie.Start) where
   abbrev lows : List ℕ
   lows = s .args .lows .now
@@ -18,8 +18,14 @@ module _ (s : tie.Start) where
   abbrev highs : List ℕ
   highs = s .args .highs .now
 
-  pinned-there : Pin lows highs (getD lows (s .args .i) 0) (getD highs (s .args .i) 0) (s .args .v) (set lows (s .args .i) (s .args .v)) (set highs (s .args .i) (s .args .v))
-  pinned-there = pinned (s .pre .0 .ranges) (s .args .i) (s .args .v) (s .pre .1 .1 .0 .0) (s .pre .1 .1 .0 .1)
+  abbrev i : ℕ
+  i = s .args .spot .member
+
+  abbrev v : ℕ
+  v = s .args .spot .value
+
+  pin : Pin lows highs (getD lows i 0) (getD highs i 0) v (set lows i v) (set highs i v)
+  pin = pinned (s .pre .sound .ranges) i v (s .pre .here) (s .pre .small)
 
 mul-pinned-figures : tie.Need-mul-pinned-figures
 mul-pinned-figures c = search needs
@@ -36,7 +42,7 @@ shared-slice-read-pinned-figures-2 c = search needs
 pinned-figures-requires : tie.Need-pinned-figures-requires
 pinned-figures-requires c κs =
     let s = c .before .before .before .before .before in
-    (s .pre .0, (s .pre .1 .0, (record { pinnedLows = set (lows s) (s .args .i) (s .args .v); pinnedHighs = set (highs s) (s .args .i) (s .args .v); pin = pinned-there s }, (s .pre .1 .1 .1 .1, s .pre .1 .1 .1 .0 .greatest))))
+    (s .pre .sound, (s .pre .held, (record { pinnedLows = set (lows s) (i s) (v s); pinnedHighs = set (highs s) (i s) (v s); pin = pin s }, (s .pre .found, s .pre .reach .greatest))))
 
 met-requires : tie.Need-met-requires
 met-requires c κs = search needs
@@ -44,10 +50,8 @@ met-requires c κs = search needs
 returns : tie.Need-returns
 returns c =
     let s = c .before .before .before .before .before .before .before in
-    let reach = s .pre .1 .1 .1 .0 in
-    let pin = pinned-there s in
     c .met .ensures
-    ∙ decided (s .pre .0) pin (s .pre .1 .0) (s .args .limits) (reach .least) (reach .greatest) (c .before .pinned-figures .ensures .is pin)
+    ∙ decided (s .pre .sound) (pin s) (s .pre .held) (s .args .question .limits) (s .pre .reach .least) (s .pre .reach .greatest) (c .before .pinned-figures .ensures .is (pin s))
 
 pub taken-at-spec : {M : Type 1} → statement M
 taken-at-spec =

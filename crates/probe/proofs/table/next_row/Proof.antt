@@ -1,7 +1,7 @@
 -- Whichever bound comes first, none lies before it, and one more is passed. Assumes nothing.
 use borrow.Author.Needs.{needs}
 use native.Mathlib.Omega.{arith}
-use Rattle.probe.specs.Laws.Steps.{low-span, low-share, low-stepped, high-span, high-share, high-stepped}
+use Rattle.probe.specs.Laws.Steps.{low-next, low-stepped, high-next, high-stepped}
 use Rattle.probe.proofs.table.next_row.Statement.{statement}
 use Rattle.probe.proofs.table.next_row.Tie as tie
 
@@ -21,19 +21,15 @@ shared-slice-read-row-at c = omega (arith, c .before .before .low-first .ensures
 row-at-requires : tie.Need-row-at-requires
 row-at-requires c κs =
     let s = start (c .before .before) in
-    let (more, low) = c .before .before .low-first .ensures .isLow (c .before .if1 .taken) in
-    let walk = s .pre .1 .1 .0 in
-    (s .pre .0, (walk .sums, (low-span (s .pre .0) (s .pre .1 .0) walk more low, low-share (s .pre .0) (s .pre .1 .0) walk more low)))
+    (s .pre .0, (s .pre .1 .1 .0 .sums, low-next (s .pre .0) (s .pre .1 .0) (s .pre .1 .1 .0) (c .before .before .low-first .ensures .isLow (c .before .if1 .taken))))
 
 add-low : tie.Need-add-low
 add-low c = search needs
 
 returns : tie.Need-returns
 returns c =
-    let t = c .before .before .before in
-    let s = start (t .before) in
-    let (more, low) = t .before .low-first .ensures .isLow (t .if1 .taken) in
-    low-stepped (s .pre .0) (s .pre .1 .0) (s .pre .1 .1 .0) more low (c .before .row-at .ensures)
+    let s = start (c .before .before .before .before) in
+    low-stepped (s .pre .0) (s .pre .1 .0) (s .pre .1 .1 .0) (c .before .before .before .before .low-first .ensures .isLow (c .before .before .before .if1 .taken)) (c .before .row-at .ensures)
 
 mul-row-at-2 : tie.Need-mul-row-at-2
 mul-row-at-2 c = search needs
@@ -44,19 +40,15 @@ shared-slice-read-row-at-2 c = omega (arith, c .before .before .low-first .ensur
 row-at-requires-2 : tie.Need-row-at-requires-2
 row-at-requires-2 c κs =
     let s = start (c .before .before) in
-    let (more, high) = c .before .before .low-first .ensures .isHigh (c .before .if1 .left) in
-    let walk = s .pre .1 .1 .0 in
-    (s .pre .0, (walk .sums, (high-span (s .pre .0) (s .pre .1 .0) walk more high, high-share (s .pre .0) (s .pre .1 .0) walk more high)))
+    (s .pre .0, (s .pre .1 .1 .0 .sums, high-next (s .pre .0) (s .pre .1 .0) (s .pre .1 .1 .0) (c .before .before .low-first .ensures .isHigh (c .before .if1 .left))))
 
 add-high : tie.Need-add-high
 add-high c = search needs
 
 returns-2 : tie.Need-returns-2
 returns-2 c =
-    let t = c .before .before .before in
-    let s = start (t .before) in
-    let (more, high) = t .before .low-first .ensures .isHigh (t .if1 .left) in
-    high-stepped (s .pre .0) (s .pre .1 .0) (s .pre .1 .1 .0) more high (c .before .row-at2 .ensures)
+    let s = start (c .before .before .before .before) in
+    high-stepped (s .pre .0) (s .pre .1 .0) (s .pre .1 .1 .0) (c .before .before .before .before .low-first .ensures .isHigh (c .before .before .before .if1 .left)) (c .before .row-at2 .ensures)
 
 pub next-row-spec : {M : Type 1} → statement M
 next-row-spec =

@@ -10,7 +10,8 @@ use Rattle.model.specs.Groups.{Group}
 use Rattle.model.specs.Laws.Lists.{ranges-length}
 use Rattle.print.specs.Inner.Written.{Room}
 use Rattle.print.specs.Laws.Written.{Rest, begin, room-next, next, done, from-start}
-use Rattle.works.specs.Tables.{Table}
+use Rattle.groups.specs.Inner.Flat.{groupsIn}
+use Rattle.works.specs.Tables.{Table, tableOf}
 use Rattle.report.specs.Laws.Lengths.{report-fits}
 use Rattle.report.specs.Lines.{settledLine}
 use Rattle.report.specs.Ready.{Reportable}
@@ -29,40 +30,46 @@ module _ {groups : List Group} {table : Table} {passes : ℕ} (ready : Reportabl
   parts = begin _ refl room
 
 put-settled-line-requires : tie.Need-put-settled-line-requires
-put-settled-line-requires c κs = let start = c .before .before .before .before .before .before .before .before in room-next (parts (start .pre .0) (start .pre .1 .1 .1))
+put-settled-line-requires c κs =
+    let start = c .before .before .before .before .before in
+    room-next (parts (start .pre .0) (start .pre .1 .1))
+
+-- the line of the passes is written
+module _ (c : tie.After-put-settled-line) where
+  abbrev start : tie.Start
+  start = c .before .before .before .before .before .before
+
+  units-left : Rest (reportOf (groupsIn (start .args .groups) (start .args .flat .now)) (tableOf (start .args .lows .now) (start .args .highs .now)) (start .args .passes)) (start .args .buffer .now) 0
+      (flatten (unitLines 1 (start .args .lows .now) (start .args .highs .now)) ∷ flatten (groupLines 1 (tableOf (start .args .lows .now) (start .args .highs .now)) (groupsIn (start .args .groups) (start .args .flat .now))) ∷ [])
+      (c .put-settled-line .last .0) (c .put-settled-line .result)
+  units-left = next (parts (start .pre .0) (start .pre .1 .1)) (c .put-settled-line .ensures)
 
 put-unit-lines-requires : tie.Need-put-unit-lines-requires
 put-unit-lines-requires c κs =
-    let start = c .before .before .before .before .before .before .before .before .before .before .before .before in
-    (ranges-length (start .pre .0 .valid), room-next (next (parts (start .pre .0) (start .pre .1 .1 .1)) (c .before .before .before .put-settled-line .ensures)))
+    let first = c .before .before .before in
+    (ranges-length (start first .pre .0 .valid), room-next (units-left first))
 
 put-group-lines-requires : tie.Need-put-group-lines-requires
 put-group-lines-requires c κs =
-    let start = c .before .before .before .before .before .before .before .before .before .before .before .before .before .before .before .before .before .before .before in
-    let first = next (parts (start .pre .0) (start .pre .1 .1 .1)) (c .before .before .before .before .before .before .before .before .before .before .put-settled-line .ensures) in (
-      record { holds = start .pre .1 .0; paired = ranges-length (start .pre .0 .valid); levelable = start .pre .0 .levelable },
-      (start .pre .1 .1 .0, room-next (next first (c .before .before .before .before .before .before .put-unit-lines .ensures))),
+    let second = c .before .before .before in
+    let first = second .before .before .before .before in
+    let pre = start first .pre in (
+      record { holds = pre .1 .0; paired = ranges-length (pre .0 .valid); levelable = pre .0 .levelable },
+      room-next (next (units-left first) (second .put-unit-lines .ensures)),
     )
 
 same-length : tie.Need-same-length
 same-length c = search needs
 
-same-length-2 : tie.Need-same-length-2
-same-length-2 c = search needs
-
-same-length-3 : tie.Need-same-length-3
-same-length-3 c = search needs
-
-same-length-4 : tie.Need-same-length-4
-same-length-4 c = search needs
-
 returns : tie.Need-returns
 unfolding flatten
 returns c =
-    let start = c .before .before .before .before .before .before .before .before .before .before .before .before .before .before .before .before .before .before .before .before .before .before .before .before .before .before .before .before in
-    let first = next (parts (start .pre .0) (start .pre .1 .1 .1)) (c .before .before .before .before .before .before .before .before .before .before .before .before .before .before .before .before .before .before .before .put-settled-line .ensures) in
-    let second = next first (c .before .before .before .before .before .before .before .before .before .before .before .before .before .before .before .put-unit-lines .ensures) in
-    let (counted, holds) = from-start (room (start .pre .0) (start .pre .1 .1 .1)) (done refl (next second (c .before .before .before .before .before .before .before .before .put-group-lines .ensures))) in
+    let third = c .before .before in
+    let second = third .before .before .before .before in
+    let first = second .before .before .before .before in
+    let pre = start first .pre in
+    let groups-left = next (units-left first) (second .put-unit-lines .ensures) in
+    let (counted, holds) = from-start (room (pre .0) (pre .1 .1)) (done refl (next groups-left (third .put-group-lines .ensures))) in
     (counted, rw counted holds)
 
 pub put-report-spec : {M : Type 1} → statement M
@@ -73,7 +80,4 @@ put-report-spec =
     put-unit-lines-requires
     put-group-lines-requires
     same-length
-    same-length-2
-    same-length-3
-    same-length-4
     returns)

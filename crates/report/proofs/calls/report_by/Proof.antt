@@ -1,38 +1,28 @@
--- The buffer is long enough, and a text that is read is reported as its groups are; one that is refused leaves all lists. Assumes nothing.
+-- A text that is read is reported as its groups are; one that is refused leaves all lists. Assumes nothing.
 use borrow.Author.Needs.{needs}
 use mathlib.Core.Path.{_∙_}
-use native.Mathlib.Omega.{arith}
 use lib.ListN.{length}
 use Rattle.works.specs.Laws.Accepted.{read-prepared}
-use Rattle.report.specs.Laws.Texts.{buffer-short, read-limits, read-reports, refused-reports}
+use Rattle.report.specs.Laws.Texts.{read-limits, read-reports, refused-reports}
 use Rattle.report.proofs.calls.report_by.Statement.{statement}
 use Rattle.report.proofs.calls.report_by.Tie as tie
 
-returns : tie.Need-returns
-returns c =
-    let args = c .before .before .before .before .before .before .before .before .before .before .args in
-    buffer-short (args .text .now) (args .lows .now) (args .highs .now) (length (args .scratch .now)) (args .buffer .now) (c .if1 .taken)
+-- where the text is scanned, from where it starts
+abbrev start : tie.After-scan-groups → tie.Start
+start c = c .before .before .before .before .before .before .before .before
 
-scan-requires : tie.Need-scan-requires
-scan-requires c κs = search needs
+scan-groups-requires : tie.Need-scan-groups-requires
+scan-groups-requires c κs = search needs
 
 enum-known-reading : tie.Need-enum-known-reading
 enum-known-reading c = search needs
 
 report-job-requires : tie.Need-report-job-requires
 report-job-requires c κs =
-    let scanned = c .before .before .before .before .before .before .before .before .before .before .before .before .before .before .before .before .before .scan in
-    let reads = c .before .before .before .before .before .before .before .before .before .reading .given .1 in
-    let space = c .before .before .before .before .before .before .before .before .before .before .before .before .before .before .before .before .before .before .before .before .before .before .before .before .before .before .before .before .before .before .before .pre .0 in (
-      read-prepared (scanned .ensures) reads,
-      (
-        read-limits (scanned .ensures) reads,
-        (
-          record { forLows = omega (arith, space .forLows, scanned .kept); forHighs = omega (arith, space .forHighs, scanned .kept); forPlan = space .forPlan },
-          omega (arith, c .before .before .before .before .before .before .before .before .before .before .before .before .before .before .before .before .before .before .before .before .before .if1 .left),
-        ),
-      ),
-    )
+    let told = c .before .before .before .before .before .before in
+    let scanned = told .before .before .before .before in
+    let reads = told .reading .given .1 in
+    (read-prepared (scanned .scan-groups .ensures) reads, (read-limits (scanned .scan-groups .ensures) reads, start scanned .pre .1))
 
 enum-known-reading-2 : tie.Need-enum-known-reading-2
 enum-known-reading-2 c = search needs
@@ -52,43 +42,31 @@ same-length-4 c = search needs
 same-length-5 : tie.Need-same-length-5
 same-length-5 c = search needs
 
+returns : tie.Need-returns
+returns c =
+    let call = c .before .before .before .before .before .before .before .before in
+    let told = call .before .before .before .before .before .before .before in
+    let scanned = told .before .before .before .before in
+    let args = start scanned .args in
+    call .report-job .ensures
+    ∙ read-reports (scanned .scan-groups .ensures) (args .lows .now) (args .highs .now) (length (args .scratch .now)) (args .buffer .now) (start scanned .pre .1)
+    (told .reading .given .1)
+
 same-length-6 : tie.Need-same-length-6
 same-length-6 c = search needs
 
-same-length-7 : tie.Need-same-length-7
-same-length-7 c = search needs
-
-same-length-8 : tie.Need-same-length-8
-same-length-8 c = search needs
-
 returns-2 : tie.Need-returns-2
 returns-2 c =
-    let args = c .before .before .before .before .before .before .before .before .before .before .before .before .before .before .before .before .before .before .before .before .before .before .before .before .before .before .before .before .before .before .before .before .before .before .before .before .before .before .before .before .before .before .before .before .before .before .args in
-    c .before .before .before .before .before .before .before .before .before .before .before .before .before .before .report-job .ensures
-    ∙ read-reports (c .before .before .before .before .before .before .before .before .before .before .before .before .before .before .before .before .before .before .before .before .before .before .before .before .before .before .before .before .before .before .before .before .scan .ensures .groups) (args .lows .now) (args .highs .now) (length (args .scratch .now)) (args .buffer .now)
-    (omega (arith, c .before .before .before .before .before .before .before .before .before .before .before .before .before .before .before .before .before .before .before .before .before .before .before .before .before .before .before .before .before .before .before .before .before .before .before .before .if1 .left)) (c .before .before .before .before .before .before .before .before .before .before .before .before .before .before .before .before .before .before .before .before .before .before .before .before .reading .given .1)
-
-same-length-9 : tie.Need-same-length-9
-same-length-9 c = search needs
-
-same-length-10 : tie.Need-same-length-10
-same-length-10 c = search needs
-
-same-length-11 : tie.Need-same-length-11
-same-length-11 c = search needs
-
-returns-3 : tie.Need-returns-3
-returns-3 c =
-    let args = c .before .before .before .before .before .before .before .before .before .before .before .before .before .before .before .before .before .before .before .before .before .before .before .args in
-    refused-reports (c .before .before .before .before .before .before .before .before .before .scan .ensures .groups) (args .lows .now) (args .highs .now) (length (args .scratch .now)) (args .buffer .now)
-    (omega (arith, c .before .before .before .before .before .before .before .before .before .before .before .before .before .if1 .left)) _ (c .before .reading2 .given .1)
+    let scanned = c .before .before .before .before .before in
+    let args = start scanned .args in
+    refused-reports (scanned .scan-groups .ensures) (args .lows .now) (args .highs .now) (length (args .scratch .now)) (args .buffer .now) (start scanned .pre .1)
+    _ (c .before .reading2 .given .1)
 
 pub report-by-spec : {M : Type 1} → statement M
 report-by-spec =
     tie.close
     (tie.spec
-    returns
-    scan-requires
+    scan-groups-requires
     enum-known-reading
     report-job-requires
     enum-known-reading-2
@@ -97,11 +75,6 @@ report-by-spec =
     same-length-3
     same-length-4
     same-length-5
+    returns
     same-length-6
-    same-length-7
-    same-length-8
-    returns-2
-    same-length-9
-    same-length-10
-    same-length-11
-    returns-3)
+    returns-2)

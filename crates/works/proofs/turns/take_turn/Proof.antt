@@ -12,7 +12,7 @@ use Rattle.groups.specs.Laws.Reading.{size-stored}
 use Rattle.groups.specs.declared.Stored.{Stored}
 use Rattle.model.specs.declared.Question.{Question}
 use Rattle.works.specs.Inner.Asked.{groupOf, Turning}
-use Rattle.works.specs.Tables.{size}
+use Rattle.groups.specs.Memberships.{size}
 use Rattle.works.specs.Laws.Parts.{part}
 use Rattle.works.specs.Laws.Turning.{count-few, room}
 use Rattle.works.proofs.turns.take_turn.Statement.{statement}
