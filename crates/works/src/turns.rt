@@ -13,7 +13,8 @@ ghost use Rattle.works.specs.Inner.Asked.{groupOf, Turning, Room, Worksp
 ghost use Rattle.works.specs.Settling.{revisedBy, revise};
 ghost use Rattle.works.specs.Tables.{tableOf};
 
-// The turn of a group with these members: gathers their ranges, narrows them and writes them back.
+// The turn of a group with these members: gathers their ranges, narrows them and writes them back, as they were where
+// there is no plan.
 fn narrow_members(
     members: &[u64],
     question: Question,
@@ -29,9 +30,6 @@ fn narrow_members(
     gather(lows, members, member_lows);
     gather(highs, members, member_highs);
     let turn = narrow_core(member_lows, member_highs, question);
-    let Turn::Narrowed = turn else {
-        return turn;
-    };
     scatter(lows, members, member_lows);
     scatter(highs, members, member_highs);
     turn

@@ -52,19 +52,15 @@ module _ {table : Table} {group : Group} (turning : Turning table group) where
       }
 
 -- a group's turn on lists that hold its members' ranges
-module _ (table : Table) (group : Group) {lows highs : List ℕ} (is-lows : lows ≡ lowsOf table group) (is-highs : highs ≡ highsOf table group)
-    (turn : Turn) (answer : turn ≡ turnOf lows highs (group .total) (group .limits)) where
-  -- where there is no plan, it hands back the refusal
-  pub turn-refused : (number : ℕ) → turn ≡ NoPlan number → (next : Table) → revisedBy turn next ≡ revise table group
-  unfolding revise
-  turn-refused number refuses next = rw (← is-lows, ← is-highs, ← answer, refuses)
-
-  -- where there is one, the narrowed ranges are written back
-  pub turn-narrowed : turn ≡ Narrowed → {nextLows nextHighs narrowLows narrowHighs : List ℕ}
+module _ (table : Table) (group : Group) {lows highs : List ℕ} (is-lows : lows ≡ lowsOf table group) (is-highs : highs ≡ highsOf table group) where
+  -- the narrowed ranges are written back; where there is no plan, it hands back the refusal
+  pub turn-taken : (turn : Turn) {nextLows nextHighs narrowLows narrowHighs : List ℕ}
+      → turn ≡ turnOf lows highs (group .total) (group .limits)
       → narrowLows ≡ afterTurn turn (narrowedLows lows highs (group .total) (group .limits)) lows
       → narrowHighs ≡ afterTurn turn (narrowedHighs lows highs (group .total) (group .limits)) highs
       → nextLows ≡ scatter (table .lows) (group .members) narrowLows → nextHighs ≡ scatter (table .highs) (group .members) narrowHighs
       → revisedBy turn (tableOf nextLows nextHighs) ≡ revise table group
   unfolding revise narrowed
-  turn-narrowed narrows low-ends high-ends low-writes high-writes =
-      rw (low-writes, high-writes, low-ends, high-ends, ← is-lows, ← is-highs, ← answer, narrows)
+  turn-taken Narrowed answer low-ends high-ends low-writes high-writes =
+      rw (low-writes, high-writes, low-ends, high-ends, ← is-lows, ← is-highs, ← answer)
+  turn-taken (NoPlan number) answer low-ends high-ends low-writes high-writes = rw (← is-lows, ← is-highs, ← answer)

@@ -4,7 +4,7 @@ use native.Mathlib.Omega.{arith}
 use Rattle.model.specs.Groups.{Group}
 use Rattle.works.specs.Inner.Asked.{groupOf}
 use Rattle.works.specs.Tables.{Table, tableOf}
-use Rattle.works.specs.Laws.Turning.{members-named, highs-named, gathered-sound, turn-refused, turn-narrowed}
+use Rattle.works.specs.Laws.Turning.{members-named, highs-named, gathered-sound, turn-taken}
 use Rattle.works.proofs.turns.narrow_members.Statement.{statement}
 use Rattle.works.proofs.turns.narrow_members.Tie as tie
 
@@ -34,11 +34,19 @@ module _ (c : tie.After-narrow-core-arg2) where
 narrow-core-requires : tie.Need-narrow-core-requires
 narrow-core-requires c κs = gathered-sound (start c .pre .0) (lows-gathered c .gather .ensures) (highs-gathered c .gather2 .ensures)
 
-enum-told : tie.Need-enum-told
-enum-told c = search needs
+scatter-requires : tie.Need-scatter-requires
+scatter-requires c κs =
+    let answer = c .before .before .before .before .before .before in (
+      members-named (start (answer .before) .pre .0),
+      omega (arith, start (answer .before) .pre .1, answer .narrow-core .kept, lows-gathered (answer .before) .gather .kept),
+    )
 
-enum-told-2 : tie.Need-enum-told-2
-enum-told-2 c = search needs
+scatter-requires-2 : tie.Need-scatter-requires-2
+scatter-requires-2 c κs =
+    let answer = c .before .before .before .before .before .before .before .before .before .before .before in (
+      highs-named (start (answer .before) .pre .0),
+      omega (arith, start (answer .before) .pre .1, answer .narrow-core .kept, highs-gathered (answer .before) .gather2 .kept),
+    )
 
 same-length : tie.Need-same-length
 same-length c = search needs
@@ -54,46 +62,12 @@ same-length-4 c = search needs
 
 returns : tie.Need-returns
 returns c =
-    let answer = c .before .before .before .before .before .before in
+    let written = c .before .before in
+    let answer = written .before .before .before .before .before .before .before .before .before .before .before .before in
     let entry = answer .before in
-    turn-refused (table entry) (group entry) (lows-gathered entry .gather .ensures) (highs-gathered entry .gather2 .ensures)
-    (answer .narrow-core .result) (answer .narrow-core .ensures .answer)
-    (c .enum-told2 .given .0 .0) (c .enum-told2 .given .1) _
-
-scatter-requires : tie.Need-scatter-requires
-scatter-requires c κs =
-    let answer = c .before .before .before .before .before .before .before .before in (
-      members-named (start (answer .before) .pre .0),
-      omega (arith, start (answer .before) .pre .1, answer .narrow-core .kept, lows-gathered (answer .before) .gather .kept),
-    )
-
-scatter-requires-2 : tie.Need-scatter-requires-2
-scatter-requires-2 c κs =
-    let answer = c .before .before .before .before .before .before .before .before .before .before .before .before .before in (
-      highs-named (start (answer .before) .pre .0),
-      omega (arith, start (answer .before) .pre .1, answer .narrow-core .kept, highs-gathered (answer .before) .gather2 .kept),
-    )
-
-same-length-5 : tie.Need-same-length-5
-same-length-5 c = search needs
-
-same-length-6 : tie.Need-same-length-6
-same-length-6 c = search needs
-
-same-length-7 : tie.Need-same-length-7
-same-length-7 c = search needs
-
-same-length-8 : tie.Need-same-length-8
-same-length-8 c = search needs
-
-returns-2 : tie.Need-returns-2
-returns-2 c =
-    let answer = c .before .before .before .before .before .before .before .before .before .before .before .before .before .before .before .before in
-    let entry = answer .before in
-    turn-narrowed (table entry) (group entry) (lows-gathered entry .gather .ensures) (highs-gathered entry .gather2 .ensures)
-    (answer .narrow-core .result) (answer .narrow-core .ensures .answer) (c .before .before .before .before .before .before .before .before .before .before .enum-told .given .1)
-    (answer .narrow-core .ensures .lowsAre) (answer .narrow-core .ensures .highsAre)
-    (c .before .before .before .before .before .before .before .scatter .ensures) (c .before .before .scatter2 .ensures)
+    turn-taken (table entry) (group entry) (lows-gathered entry .gather .ensures) (highs-gathered entry .gather2 .ensures)
+    (answer .narrow-core .result) (answer .narrow-core .ensures .answer) (answer .narrow-core .ensures .lowsAre) (answer .narrow-core .ensures .highsAre)
+    (written .before .before .before .before .before .scatter .ensures) (written .scatter2 .ensures)
 
 pub narrow-members-spec : {M : Type 1} → statement M
 narrow-members-spec =
@@ -102,17 +76,10 @@ narrow-members-spec =
     gather-requires
     gather-requires-2
     narrow-core-requires
-    enum-told
-    enum-told-2
+    scatter-requires
+    scatter-requires-2
     same-length
     same-length-2
     same-length-3
     same-length-4
-    returns
-    scatter-requires
-    scatter-requires-2
-    same-length-5
-    same-length-6
-    same-length-7
-    same-length-8
-    returns-2)
+    returns)
