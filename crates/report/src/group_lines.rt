@@ -4,7 +4,6 @@ use group::Levelling;
 use group::level_core;
 use groups::Stored;
 use groups::group_at;
-use model::MOST_UNITS;
 use model::lists::room;
 use works::members::gather;
 ghost use Prim.Native.Nat.{_+_, _≤_};
@@ -21,16 +20,14 @@ ghost use Rattle.report.specs.Inner.Ready.{LevelledIn, Printable};
 ghost use Rattle.report.specs.Reports.{groupLines};
 ghost use Rattle.works.specs.Tables.{Named, gather, tableOf};
 
-// The members' entries, at the front of a list.
-fn gathered(entries: &[u64], members: &[u64]) -> [u64; MOST_UNITS]
+// Writes the members' entries over the front of a list.
+fn gather_front(entries: &[u64], members: &[u64], out: &mut [u64])
     requires { ⌜ Named (length (now entries)) (now members) ⌝ }
-    requires { ⌜ length (now members) ≤ greatestCount ⌝ }
-    ensures { λ r. ⌜ (length (now (members .entry)) ≤ length r) × (take (length (now (members .entry))) r ≡ gather (now (entries .entry)) (now (members .entry))) ⌝ }
+    requires { ⌜ length (now members) ≤ length (now out) ⌝ }
+    ensures { λ _. ⌜ take (length (now (members .entry))) (now (out .exit)) ≡ gather (now (entries .entry)) (now (members .entry)) ⌝ }
 {
     let count = members.len();
-    let mut front = room();
-    gather(entries, members, &mut front[..count]);
-    front
+    gather(entries, members, &mut out[..count]);
 }
 
 // Levels members within their ranges in the table: their shares go to the plan, over its first numbers.
@@ -48,8 +45,10 @@ fn level_members(
     ensures { λ r. ⌜ now (plan .exit) ≡ planAfter r (levelled (gather (now (lows .entry)) (now (members .entry))) (gather (now (highs .entry)) (now (members .entry))) total) (now (plan .entry)) ⌝ }
 {
     let count = members.len();
-    let member_lows = gathered(lows, members);
-    let member_highs = gathered(highs, members);
+    let mut member_lows = room();
+    let mut member_highs = room();
+    gather_front(lows, members, &mut member_lows);
+    gather_front(highs, members, &mut member_highs);
     level_core(&member_lows[..count], &member_highs[..count], total, plan)
 }
 

@@ -1,7 +1,6 @@
 -- A settled table is reported; a refusal is handed on, and leaves the buffer. Assumes nothing.
 use borrow.Author.Needs.{needs}
 use mathlib.Core.Path.{sym}
-use native.Mathlib.Omega.{arith}
 use lib.Seq.{length-take-le}
 use Rattle.groups.specs.Inner.Flat.{groupsIn}
 use Rattle.report.specs.Inner.Ready.{FrontReportable}

@@ -14,30 +14,57 @@ use Rattle.report.proofs.group_lines.level_members.Tie as tie
 few : (start : tie.Start) → length (start .args .members .now) ≤ greatestCount
 few start = omega (arith, gather-length (start .args .lows .now) (start .args .members .now), start .pre .1 .0 .few)
 
-gathered-requires : tie.Need-gathered-requires
-gathered-requires c κs = let start = c .before .before .before .before in (start .pre .0 .0, few start)
+-- where the lists for their ranges are made, from where it starts
+abbrev start : tie.After-room → tie.Start
+start c = c .before .before .before .before .before
 
-gathered-requires-2 : tie.Need-gathered-requires-2
-gathered-requires-2 c κs = let start = c .before .before .before .before .before in (start .pre .0 .1, few start)
+room-requires : tie.Need-room-requires
+room-requires c κs = search needs
+
+room-requires-2 : tie.Need-room-requires-2
+room-requires-2 c κs = search needs
+
+slice-aggregate-gather-front : tie.Need-slice-aggregate-gather-front
+slice-aggregate-gather-front c = search needs
+
+gather-front-requires : tie.Need-gather-front-requires
+gather-front-requires c κs =
+    let made = c .before .before in
+    (start made .pre .0 .0, omega (arith, few (start made), made .room .ensures))
+
+slice-aggregate-gather-front-2 : tie.Need-slice-aggregate-gather-front-2
+slice-aggregate-gather-front-2 c = search needs
+
+gather-front-requires-2 : tie.Need-gather-front-requires-2
+gather-front-requires-2 c κs =
+    let made = c .before .before .before .before in
+    (start (made .before) .pre .0 .1, omega (arith, few (start (made .before)), made .room2 .ensures))
 
 array-share-prefix-member-lows : tie.Need-array-share-prefix-member-lows
-array-share-prefix-member-lows c = c .before .gathered .ensures .0
+array-share-prefix-member-lows c =
+    let first = c .before .before .before .before in
+    let made = first .before .before .before in
+    omega (arith, few (start made), made .room .ensures, first .gather-front .kept)
 
 slice-aggregate-level-core : tie.Need-slice-aggregate-level-core
 slice-aggregate-level-core c = sym (length-take-le _ _ (array-share-prefix-member-lows (c .before)))
 
 array-share-prefix-member-highs : tie.Need-array-share-prefix-member-highs
-array-share-prefix-member-highs c = c .before .gathered2 .ensures .0
+array-share-prefix-member-highs c =
+    let second = c .before .before in
+    let made = second .before .before .before .before .before in
+    omega (arith, few (start (made .before)), made .room2 .ensures, second .gather-front2 .kept)
 
 slice-aggregate-level-core-2 : tie.Need-slice-aggregate-level-core-2
 slice-aggregate-level-core-2 c = sym (length-take-le _ _ (array-share-prefix-member-highs (c .before)))
 
 level-core-requires : tie.Need-level-core-requires
 level-core-requires c κs =
-    let highs = c .before .before .before in
-    let start = highs .before .before .before .before .before .before in
-    rw (highs .before .gathered .ensures .1, highs .gathered2 .ensures .1)
-    (start .pre .1 .0, omega (arith, gather-length (start .args .lows .now) (start .args .members .now), few start, start .pre .1 .1))
+    let second = c .before .before .before .before in
+    let first = second .before .before .before in
+    let opens = start (first .before .before .before) in
+    rw (first .gather-front .ensures, second .gather-front2 .ensures)
+    (opens .pre .1 .0, omega (arith, gather-length (opens .args .lows .now) (opens .args .members .now), few opens, opens .pre .1 .1))
 
 same-length : tie.Need-same-length
 same-length c = search needs
@@ -45,15 +72,19 @@ same-length c = search needs
 returns : tie.Need-returns
 returns c =
     let call = c .before .before in
-    let highs = call .before .before .before .before in
-    rw (highs .before .gathered .ensures .1, highs .gathered2 .ensures .1) at (call .level-core .ensures)
+    let second = call .before .before .before .before .before in
+    rw (second .before .before .before .gather-front .ensures, second .gather-front2 .ensures) at (call .level-core .ensures)
 
 pub level-members-spec : {M : Type 1} → statement M
 level-members-spec =
     tie.close
     (tie.spec
-    gathered-requires
-    gathered-requires-2
+    room-requires
+    room-requires-2
+    slice-aggregate-gather-front
+    gather-front-requires
+    slice-aggregate-gather-front-2
+    gather-front-requires-2
     array-share-prefix-member-lows
     slice-aggregate-level-core
     array-share-prefix-member-highs
