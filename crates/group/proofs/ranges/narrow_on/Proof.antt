@@ -4,10 +4,10 @@ use borrow.Author.Tests.{not-true, not-false}
 use native.Mathlib.Omega.{arith}
 use mathlib.Core.List.{List}
 use mathlib.Core.Path.{_≡_, refl, sym, _∙_}
-use Prim.Native.Nat.{ℕ, _+_, _-_, _*_, _≤_, min}
+use Prim.Native.Nat.{ℕ, _+_, _-_, _*_, _≤_}
 use lib.ListN.{length, getD}
 use Rattle.model.specs.Levels.{topped}
-use Rattle.model.specs.Plans.{hasShares, turnOf, narrowedLows, narrowedHighs}
+use Rattle.model.specs.Plans.{turnOf, narrowedLows, narrowedHighs}
 use Rattle.model.specs.Laws.Lists.{ranges-at}
 use Rattle.model.specs.Laws.Narrowing.{narrowedLows-length, narrowedHighs-length, narrowedLows-at, narrowedHighs-at}
 use Rattle.model.specs.Laws.Turns.{found-turn}
@@ -97,7 +97,7 @@ extra-requires c κs = search needs
 clamp-requires : tie.Need-clamp-requires Inv-loop μ-loop
 clamp-requires c κs =
     let turn = c .before .before .before .before in
-    ranges-at (begun (turn .before) .pre .0 .sound .ranges) (turn .loop .i) (omega arith) .0
+    ranges-at (begun (turn .before) .pre .0 .sound .ranges) (turn .loop .member) (omega arith) .0
 
 -- the loop's turn and the member's share, seen from the share on
 module _ (c : tie.After-clamp Inv-loop μ-loop) where
@@ -120,7 +120,7 @@ module _ (c : tie.After-clamp Inv-loop μ-loop) where
   left = turn .before .before .before .level-on .result .over
 
   abbrev i : ℕ
-  i = turn .loop .i
+  i = turn .loop .member
 
   abbrev more : ℕ
   more = c .before .extra .result
@@ -162,8 +162,8 @@ mul-stops c = omega (arith, from (c .before .before) .pre .0 .sound .few)
 slice-write-stops : tie.Need-slice-write-stops Inv-loop μ-loop
 slice-write-stops c = omega (arith, turn (c .before .before) .loop .inv .2 .size, from (c .before .before) .pre .1 .1 .1)
 
-add-i : tie.Need-add-i Inv-loop μ-loop
-add-i c = omega (arith, from (c .before .before) .pre .0 .sound .few)
+add-member : tie.Need-add-member Inv-loop μ-loop
+add-member c = omega (arith, from (c .before .before) .pre .0 .sound .few)
 
 loop-less : tie.Need-loop-less Inv-loop μ-loop
 loop-less c = search needs
@@ -221,7 +221,7 @@ narrow-on-spec =
     farthest-taken-requires-2
     mul-stops
     slice-write-stops
-    add-i
+    add-member
     loop-less
     loop-again
     same-length
