@@ -9,7 +9,6 @@ use probe::probing::taken_at;
 use probe::rows::read_row;
 ghost use mathlib.Core.Path.{_≡_};
 ghost use Prim.Native.Nat.{_≤_, min};
-ghost use Rattle.model.specs.Figures.{apart};
 ghost use Rattle.model.specs.Plans.{taken};
 ghost use Rattle.group.specs.Inner.Edges.{Edge, Reach, Approach};
 ghost use Rattle.group.specs.Inner.Flanks.{Flanking, OneRow, ToOneRow, flanksOf};
@@ -29,16 +28,6 @@ struct Gap {
     outer: u64,
     inner: u64,
     row: usize,
-}
-
-// How many rows it is from one to another.
-fn rows_apart(a: usize, b: usize) -> usize
-    ensures { λ r. ⌜ r ≡ apart a b ⌝ }
-{
-    if a < b {
-        return b - a;
-    }
-    a - b
 }
 
 // The earlier of two rows.
@@ -86,7 +75,7 @@ fn to_one_row(lows: &[u64], highs: &[u64], table: &[u64], question: Question, fl
     let mut inner = flanks.inner;
     let mut far = flanks.far;
     let mut near = flanks.near;
-    while 1 < rows_apart(far, near) {
+    while 1 < apart(far as u64, near as u64) {
         let row = (far + near) / 2;
         let value = value_at(read_row(table, row), low, high, question.total);
         if taken_at(lows, highs, table, question, Spot { member, value, row }) {

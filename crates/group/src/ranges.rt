@@ -11,8 +11,8 @@ use probe::probing::Spot;
 use probe::probing::has_plan;
 use probe::probing::level_on;
 ghost use mathlib.Core.Path.{_≡_};
-ghost use Prim.Native.Nat.{_*_, _≤_};
-ghost use lib.ListN.{length, getD};
+ghost use Prim.Native.Nat.{_≤_};
+ghost use lib.ListN.{length};
 ghost use Rattle.model.specs.Plans.{turnOf, narrowedLows, narrowedHighs};
 ghost use Rattle.group.specs.Sound.{Sound, HasShares};
 ghost use Rattle.group.specs.Inner.Narrowing.{afterTurn, Turned};
@@ -42,21 +42,17 @@ fn narrow_on(
     }
     let v = levelled.level;
     let mut left = levelled.over;
-    let mut i: usize = 0;
-    while i < lows.len() {
-        let low = lows[i];
-        let high = highs[i];
+    let mut member: usize = 0;
+    while member < lows.len() {
+        let low = lows[member];
+        let high = highs[member];
         let more = extra(low, high, v, left);
         let value = clamp(low, high, v) + more;
-        let share = Spot {
-            member: i,
-            value,
-            row,
-        };
+        let share = Spot { member, value, row };
         left -= more;
-        starts[i] = farthest_taken(lows, highs, table, question, share, low);
-        stops[i] = farthest_taken(lows, highs, table, question, share, high);
-        i += 1;
+        starts[member] = farthest_taken(lows, highs, table, question, share, low);
+        stops[member] = farthest_taken(lows, highs, table, question, share, high);
+        member += 1;
     }
     Turn::Narrowed
 }

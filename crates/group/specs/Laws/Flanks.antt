@@ -129,7 +129,7 @@ module _ {lows highs table : List ℕ} {total : ℕ} {limits : Limits} {flanks :
   high = getD highs i 0
 
   abbrev Of : ℕ → ℕ → Type 0
-  Of v k = RowOf lows highs table total i v k
+  Of = RowOf lows highs table total i
 
   tabled : Tabled lows highs total table
   tabled = flanking .search .way .tabled

@@ -44,8 +44,8 @@ loop-holds c =
     let p = c .before .before .before .before .before .pre in
     (straddle-start _ _ _ (p .search .fails) (p .search .way .passes), p)
 
-rows-apart-requires : tie.Need-rows-apart-requires Inv-loop μ-loop
-rows-apart-requires c κs = search needs
+apart-requires : tie.Need-apart-requires Inv-loop μ-loop
+apart-requires c κs = search needs
 
 -- the row halfway
 module _ (c : tie.Then1 Inv-loop μ-loop) where
@@ -154,7 +154,7 @@ to-one-row-spec =
     mul-high
     shared-slice-read-high
     loop-holds
-    rows-apart-requires
+    apart-requires
     add-row
     read-row-requires
     value-at-requires

@@ -4,20 +4,20 @@ use borrow.Author.Tests.{not-true, not-false}
 use native.Mathlib.Omega.{arith}
 use mathlib.Core.List.{List}
 use mathlib.Core.Path.{_≡_, refl, sym, _∙_}
-use Prim.Native.Nat.{ℕ, _+_, _-_, _*_, _≤_, min}
+use Prim.Native.Nat.{ℕ, _+_, _-_, _*_, _≤_}
 use lib.ListN.{length, getD}
 use Rattle.model.specs.Levels.{topped}
-use Rattle.model.specs.Plans.{hasShares, turnOf, narrowedLow, narrowedHigh, narrowedLows, narrowedHighs}
+use Rattle.model.specs.Plans.{turnOf, narrowedLows, narrowedHighs}
 use Rattle.model.specs.Laws.Lists.{ranges-at}
 use Rattle.model.specs.Laws.Narrowing.{narrowedLows-length, narrowedHighs-length, narrowedLows-at, narrowedHighs-at}
 use Rattle.model.specs.Laws.Turns.{found-turn}
+use Rattle.model.specs.Laws.Writing.{Filled, filled-none, filled-more, filled-all}
 use Rattle.model.specs.Laws.Walk.{Ahead, ahead-share, ahead-step}
 use Rattle.probe.specs.Inner.Probes.{InReach}
 use Rattle.probe.specs.Laws.Reaching.{shares-reach}
 use Rattle.group.specs.Laws.Bounds.{share-at-small}
 use Rattle.group.specs.Laws.Sound.{shares-had}
 use Rattle.group.specs.Inner.Tabled.{HasPlan}
-use Rattle.group.specs.Laws.Tabled.{Filled, filled-none, filled-next, filled-all}
 use Rattle.group.specs.Laws.Edges.{Planned}
 use Rattle.group.specs.Laws.Ends.{levelled-planned, to-low, to-high, low-reached, high-reached}
 use Rattle.group.proofs.ranges.narrow_on.Statement.{statement}
@@ -26,12 +26,20 @@ use Rattle.group.proofs.ranges.narrow_on.Tie as tie
 abbrev Inv-loop : tie.InvT-loop
 Inv-loop lows highs table question starts₀ stops₀ row v left₀ i₀ starts stops left i =
     (i ≤ length lows)
-    × Filled (length lows) (narrowedLow lows highs (question .total) (question .limits)) i starts
-    × Filled (length lows) (narrowedHigh lows highs (question .total) (question .limits)) i stops
+    × Filled (narrowedLows lows highs (question .total) (question .limits)) starts₀ starts i
+    × Filled (narrowedHighs lows highs (question .total) (question .limits)) stops₀ stops i
     × Ahead lows highs v left₀ left i
 
 abbrev μ-loop : tie.MeasureT-loop
 μ-loop lows highs table question starts₀ stops₀ row v left₀ i₀ starts stops left i = length lows - i
+
+-- the narrowed lists are as long as the group
+module _ (s : tie.Start Inv-loop μ-loop) where
+  many-lows : length (narrowedLows (s .args .lows .now) (s .args .highs .now) (s .args .question .total) (s .args .question .limits)) ≡ length (s .args .lows .now)
+  many-lows = narrowedLows-length _ _ _ _
+
+  many-highs : length (narrowedHighs (s .args .lows .now) (s .args .highs .now) (s .args .question .total) (s .args .question .limits)) ≡ length (s .args .lows .now)
+  many-highs = narrowedHighs-length _ _ _ _
 
 -- the group's own total is in reach
 in-reach : (s : tie.Start Inv-loop μ-loop) → InReach (s .args .table .now) (2 * length (s .args .lows .now)) 0 0 0 (s .args .question .total)
@@ -69,9 +77,7 @@ module _ (c : tie.Else1 Inv-loop μ-loop) where
   }
 
 loop-holds : tie.Need-loop-holds Inv-loop μ-loop
-loop-holds c =
-    let s = begun c in
-    (search needs, filled-none (s .pre .1 .1 .0), filled-none (s .pre .1 .1 .1), refl)
+loop-holds c = (search needs, filled-none _ _, filled-none _ _, refl)
 
 mul-low : tie.Need-mul-low Inv-loop μ-loop
 mul-low c = search needs
@@ -91,7 +97,7 @@ extra-requires c κs = search needs
 clamp-requires : tie.Need-clamp-requires Inv-loop μ-loop
 clamp-requires c κs =
     let turn = c .before .before .before .before in
-    ranges-at (begun (turn .before) .pre .0 .sound .ranges) (turn .loop .i) (omega arith) .0
+    ranges-at (begun (turn .before) .pre .0 .sound .ranges) (turn .loop .member) (omega arith) .0
 
 -- the loop's turn and the member's share, seen from the share on
 module _ (c : tie.After-clamp Inv-loop μ-loop) where
@@ -114,7 +120,7 @@ module _ (c : tie.After-clamp Inv-loop μ-loop) where
   left = turn .before .before .before .level-on .result .over
 
   abbrev i : ℕ
-  i = turn .loop .i
+  i = turn .loop .member
 
   abbrev more : ℕ
   more = c .before .extra .result
@@ -145,7 +151,7 @@ mul-starts : tie.Need-mul-starts Inv-loop μ-loop
 mul-starts c = search needs
 
 slice-write-starts : tie.Need-slice-write-starts Inv-loop μ-loop
-slice-write-starts c = search needs
+slice-write-starts c = omega (arith, turn (c .before) .loop .inv .1 .size, from (c .before) .pre .1 .1 .0)
 
 farthest-taken-requires-2 : tie.Need-farthest-taken-requires-2 Inv-loop μ-loop
 farthest-taken-requires-2 c κs = to-high (planned (c .before)) (from (c .before) .pre .1 .0)
@@ -154,36 +160,40 @@ mul-stops : tie.Need-mul-stops Inv-loop μ-loop
 mul-stops c = omega (arith, from (c .before .before) .pre .0 .sound .few)
 
 slice-write-stops : tie.Need-slice-write-stops Inv-loop μ-loop
-slice-write-stops c = search needs
+slice-write-stops c = omega (arith, turn (c .before .before) .loop .inv .2 .size, from (c .before .before) .pre .1 .1 .1)
 
-add-i : tie.Need-add-i Inv-loop μ-loop
-add-i c = omega (arith, from (c .before .before) .pre .0 .sound .few)
+add-member : tie.Need-add-member Inv-loop μ-loop
+add-member c = omega (arith, from (c .before .before) .pre .0 .sound .few)
 
 loop-less : tie.Need-loop-less Inv-loop μ-loop
 loop-less c = search needs
 
 loop-again : tie.Need-loop-again Inv-loop μ-loop
 loop-again c =
-    let m = c .before .before in (
+    let m = c .before .before in
+    let inv = turn m .loop .inv in (
       search needs,
-      filled-next (turn m .loop .inv .1) (omega arith) (low-reached (planned m) (c .before .farthest-taken .ensures)),
-      filled-next (turn m .loop .inv .2) (omega arith) (high-reached (planned m) (c .farthest-taken2 .ensures)),
+      filled-more (inv .1) (omega (arith, many-lows (from m))) (omega (arith, from m .pre .1 .1 .0)) _
+          (low-reached (planned m) (c .before .farthest-taken .ensures) ∙ sym (narrowedLows-at _ _ _ _ (i m) (omega arith))),
+      filled-more (inv .2) (omega (arith, many-highs (from m))) (omega (arith, from m .pre .1 .1 .1)) _
+          (high-reached (planned m) (c .farthest-taken2 .ensures) ∙ sym (narrowedHighs-at _ _ _ _ (i m) (omega arith))),
       next m,
     )
 
 same-length : tie.Need-same-length Inv-loop μ-loop
-same-length c = c .before .loop .inv .1 .size ∙ sym (begun (c .before .before) .pre .1 .1 .0)
+same-length c = c .before .loop .inv .1 .size
 
 same-length-2 : tie.Need-same-length-2 Inv-loop μ-loop
-same-length-2 c = c .before .loop .inv .2 .size ∙ sym (begun (c .before .before) .pre .1 .1 .1)
+same-length-2 c = c .before .loop .inv .2 .size
 
 returns-2 : tie.Need-returns-2 Inv-loop μ-loop
 returns-2 c =
-    let inv = c .before .loop .inv in (
+    let inv = c .before .loop .inv in
+    let s = begun (c .before .before) in (
       sym (found-turn _ _ _ _ (has-one (c .before .before) .found)),
       (
-        filled-all (inv .1) (omega arith) (narrowedLows-length _ _ _ _) (narrowedLows-at _ _ _ _),
-        filled-all (inv .2) (omega arith) (narrowedHighs-length _ _ _ _) (narrowedHighs-at _ _ _ _),
+        filled-all (inv .1) (s .pre .1 .1 .0 ∙ sym (many-lows s)) (omega (arith, many-lows s)),
+        filled-all (inv .2) (s .pre .1 .1 .1 ∙ sym (many-highs s)) (omega (arith, many-highs s)),
       ),
     )
 
@@ -211,7 +221,7 @@ narrow-on-spec =
     farthest-taken-requires-2
     mul-stops
     slice-write-stops
-    add-i
+    add-member
     loop-less
     loop-again
     same-length

@@ -2,14 +2,12 @@
 use borrow.Author.Needs.{needs}
 use borrow.Author.Tests.{not-true, not-false}
 use native.Mathlib.Omega.{arith}
-use mathlib.Core.Bool.{true}
 use mathlib.Core.Path.{_≡_, refl, sym, ap, _∙_}
 use lib.ListN.{length}
-use Rattle.model.specs.Plans.{hasShares, turnOf, narrowedLows, narrowedHighs}
+use Rattle.model.specs.Plans.{turnOf, narrowedLows, narrowedHighs}
 use Rattle.model.specs.Laws.Narrowing.{narrowedLows-length, narrowedHighs-length}
 use Rattle.group.specs.Sound.{HasShares}
 use Rattle.group.specs.Laws.Sound.{has-shares}
-use Rattle.group.specs.Inner.Tabled.{Tabled}
 use Rattle.group.specs.Laws.Narrowing.{after-narrowed}
 use Rattle.group.specs.Laws.Tabled.{probe-sound}
 use Rattle.group.proofs.ranges.narrow_with.Statement.{statement}
