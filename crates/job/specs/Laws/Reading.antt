@@ -13,6 +13,7 @@ use Rattle.job.specs.Laws.Spelling.{printed-line}
 use Rattle.job.specs.Job.{Job, next, stop, stepOn, verdict, judged, add, placeOf, Outcome, accepted, refused, refusal, onward, readLines}
 use Rattle.job.specs.Job.{readJob}
 use Rattle.job.specs.declared.Reading.the-variants.{Read, Refused}
+use Rattle.job.specs.Inner.Reading.{Fronts}
 use Rattle.job.specs.Reading.{readingOf, fitTable, readTable, Filled}
 
 -- a line has at least one byte
@@ -63,16 +64,24 @@ pub filled-refused : (text lows highs : List ℕ) (r : Refusal) → readTable te
 filled-refused text lows highs r e = record { answer = rw e; lows-are = rw e; highs-are = rw e }
 
 -- a text accepted fills it from the front of the lists that hold the job
-pub filled-accepted : (text lows₀ highs₀ lows highs least greatest rest past : List ℕ) (job : Job) (units groups : ℕ)
-    → readTable text (length lows₀) (length highs₀) ≡ accepted job → length (job .lows) ≡ units → length (job .highs) ≡ units
-    → length (job .groups) ≡ groups → least ≡ job .lows ++ rest → greatest ≡ job .highs ++ past → lows ≡ take units least ++ drop units lows₀
-    → highs ≡ take units greatest ++ drop units highs₀ → Filled text lows₀ highs₀ lows highs (Read units groups)
-filled-accepted text lows₀ highs₀ lows highs least greatest rest past job units groups e u v g l m f h =
+pub filled-accepted : (text lows₀ highs₀ : List ℕ) {lows highs least greatest : List ℕ} {job : Job} {units groups : ℕ}
+    → readTable text (length lows₀) (length highs₀) ≡ accepted job → Fronts least greatest units groups job
+    → lows ≡ take units least ++ drop units lows₀ → highs ≡ take units greatest ++ drop units highs₀
+    → Filled text lows₀ highs₀ lows highs (Read units groups)
+filled-accepted text lows₀ highs₀ {job = job} {units = units} e f a b =
     record {
-      answer = rw (e, u, g);
-      lows-are = rw (e, f, l, u, take-at (job .lows) rest units u);
-      highs-are = rw (e, h, m, u, take-at (job .highs) past units v);
+      answer = rw (e, f .units-are, f .groups-are);
+      lows-are = rw (e, a, f .lows, f .units-are, take-at (job .lows) (f .rest) units (f .units-are));
+      highs-are = rw (e, b, f .highs, f .units-are, take-at (job .highs) (f .past) units (f .pairs));
     }
+
+-- which are long enough for them
+pub fronts-long : {least greatest : List ℕ} {units groups : ℕ} {job : Job} → Fronts least greatest units groups job
+    → (units ≤ length least) × (units ≤ length greatest)
+fronts-long {job = job} f = (
+  omega (arith, ap length (f .lows), length-append (job .lows) (f .rest), f .units-are),
+  omega (arith, ap length (f .highs), length-append (job .highs) (f .past), f .pairs),
+)
 
 -- the outcome behind an answer
 pub accepted-by : (o : Outcome) (units groups : ℕ) → Read units groups ≡ readingOf o
