@@ -31,10 +31,10 @@ copy-front-requires-2 : tie.Need-copy-front-requires-2
 copy-front-requires-2 c κs = search needs
 
 same-length : tie.Need-same-length
-same-length c = search needs
+same-length c = c .before .before .before .before .before .before .copy-front .kept .1 .0
 
 same-length-2 : tie.Need-same-length-2
-same-length-2 c = search needs
+same-length-2 c = c .before .before .copy-front2 .kept .1 .0
 
 returns-3 : tie.Need-returns-3
 returns-3 c = λ text job e f.
