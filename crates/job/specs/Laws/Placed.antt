@@ -6,13 +6,11 @@ use mathlib.Core.Path.{_≡_, refl, ap, _∙_}
 use native.Mathlib.Omega.{arith}
 use lib.ListN.{length, take, drop, length-map}
 use lib.Seq.{sets, sets-eq, length-sets, take-at, drop-at, length-take-le}
-use Rattle.model.specs.declared.Limits.{Limits}
 use Rattle.groups.specs.Inner.Flat.{headLength, flatLength, mostFlat}
-use Rattle.job.specs.Form.{GroupLine}
 use Rattle.job.specs.declared.lines.Head.{Head}
 use Rattle.job.specs.declared.lines.Members.{Members}
 use Rattle.job.specs.declared.steps.Progress.{Progress}
-use Rattle.job.specs.Job.{mostUnits, mostMemberships, unless, first, headVerdict, membersVerdict, allNamed, distinct, memberOf}
+use Rattle.job.specs.Job.{mostUnits, unless, first, headVerdict, membersVerdict, allNamed, distinct, memberOf}
 use Rattle.job.specs.Inner.Placed.{headNumber, groupNumber, Placed}
 use Rattle.job.specs.Laws.Distinct.{distinct-members, members-below}
 use Rattle.job.specs.Laws.Tally.{GroupFacts, numbersOf}
@@ -23,11 +21,10 @@ abbrev pub membersFrom : Progress → ℕ
 membersFrom p = flatLength (p .groups) (p .memberships) + headLength
 
 -- a head without a refusal leaves its members room
-pub head-fits : (p : Progress) (head : Head) (m : Members) → headNumber p head m ≡ 0
-    → (membersFrom p + m .count ≤ mostFlat) × (p .memberships + m .count ≤ mostMemberships)
+head-fits : (p : Progress) (head : Head) (m : Members) → headNumber p head m ≡ 0 → membersFrom p + m .count ≤ mostFlat
 head-fits p head m e =
     let k = head-good _ _ (head .total) (head .limits) _ e in
-    (omega (arith, k .room, k .fits), k .fits)
+    omega (arith, k .room, k .fits)
 
 -- the part of a list where numbers were stored
 part-of-sets : (d vs : List ℕ) (i : ℕ) → i + length vs ≤ length d → take (length vs) (drop i (sets d i vs)) ≡ vs
@@ -52,14 +49,14 @@ module _ (p : Progress) (head : Head) (m : Members) {flat flat′ s r : List ℕ
   part e =
       let ms : List ℕ = map memberOf (numbersOf (f .line)) in
       let n : length ms ≡ m .count = length-map (numbersOf (f .line)) memberOf ∙ f .counted in
-      rw (f .stored, ← n) (part-of-sets flat ms (membersFrom p) (omega (arith, head-fits p head m e .0)))
+      rw (f .stored, ← n) (part-of-sets flat ms (membersFrom p) (omega (arith, head-fits p head m e)))
 
   -- and lie where the code looks for them
   pub placed : p .units ≤ mostUnits → Placed p head m flat′ (membersFrom p)
   placed u =
       record {
         inside =
-            λ e. omega (arith, head-fits p head m e .0, ap length (f .stored), length-sets flat (membersFrom p) (map memberOf (numbersOf (f .line))));
+            λ e. omega (arith, head-fits p head m e, ap length (f .stored), length-sets flat (membersFrom p) (map memberOf (numbersOf (f .line))));
         below = λ e w. rw (part e) (members-below (p .units) mostUnits _ u (f .all-within ∙ w));
       }
 
