@@ -5,7 +5,7 @@ ghost use mathlib.Core.List.{_++_};
 ghost use lib.ListN.{length, take, drop};
 ghost use Rattle.groups.specs.Inner.Flat.{mostFlat};
 ghost use Rattle.job.specs.Job.{mostUnits};
-ghost use Rattle.job.specs.Inner.Reading.{GroupsScanned, Scanned};
+ghost use Rattle.job.specs.Inner.Reading.{GroupsScanned, Scanned, FilledBy};
 ghost use Rattle.job.specs.Reading.{Filled};
 use groups::MOST_FLAT;
 use model::Refusal;
@@ -61,6 +61,29 @@ fn copy_front(from: &[u64], to: &mut [u64], count: usize)
     copy(&from[..count], &mut to[..count]);
 }
 
+// Fills a table that is long enough from the front of lists that hold a job's units.
+fn fill(
+    least: &[u64],
+    greatest: &[u64],
+    lows: &mut [u64],
+    highs: &mut [u64],
+    units: usize,
+    groups: usize,
+) -> Reading
+    requires { ⌜ (units ≤ length (now least)) × (units ≤ length (now greatest)) ⌝ }
+    ensures { λ r. ⌜ FilledBy (now (least .entry)) (now (greatest .entry)) units groups (now (lows .entry)) (now (highs .entry)) (now (lows .exit)) (now (highs .exit)) r ⌝ }
+{
+    if lows.len() < units {
+        return refused(1);
+    }
+    if highs.len() < units {
+        return refused(1);
+    }
+    copy_front(least, lows, units);
+    copy_front(greatest, highs, units);
+    Reading::Read { units, groups }
+}
+
 // Reads a text into a table, by way of lists that hold every job.
 fn read_by(
     text: &[u8],
@@ -77,15 +100,7 @@ fn read_by(
     let Reading::Read { units, groups } = reading else {
         return reading;
     };
-    if lows.len() < units {
-        return refused(1);
-    }
-    if highs.len() < units {
-        return refused(1);
-    }
-    copy_front(least, lows, units);
-    copy_front(greatest, highs, units);
-    Reading::Read { units, groups }
+    fill(least, greatest, lows, highs, units, groups)
 }
 
 // Reads a job text: fills the table from its unit lines, and answers the counts of units and groups, or a refusal.

@@ -10,7 +10,7 @@ use Rattle.groups.specs.Inner.Flat.{flatten}
 use Rattle.job.specs.declared.steps.Progress.{Progress}
 use Rattle.job.specs.declared.Reading.{Reading}
 use Rattle.job.specs.declared.Reading.the-variants.{Read, Refused}
-use Rattle.job.specs.Reading.{readingOf}
+use Rattle.job.specs.Reading.{readingOf, Filled}
 
 -- the answer to a text whose lines are all taken: 01: "10 no unit line, place 0"
 unfoldable pub countsOf : Progress → Reading
@@ -27,3 +27,18 @@ pub record Scanned (text lows₀ highs₀ flat₀ lows highs flat : List ℕ) (r
   pub found-lows : (job : Job) → readJob text ≡ accepted job → lows ≡ job .lows ++ drop (length (job .lows)) lows₀
   pub found-highs : (job : Job) → readJob text ≡ accepted job → highs ≡ job .highs ++ drop (length (job .lows)) highs₀
   pub pairs : (job : Job) → readJob text ≡ accepted job → length (job .highs) ≡ length (job .lows)
+
+-- lists that begin with the ranges of a job of so many units and groups
+pub record Fronts (least greatest : List ℕ) (units groups : ℕ) (job : Job) : Type 0 where
+  pub rest : List ℕ
+  pub past : List ℕ
+  pub lows : least ≡ job .lows ++ rest
+  pub highs : greatest ≡ job .highs ++ past
+  pub units-are : length (job .lows) ≡ units
+  pub pairs : length (job .highs) ≡ units
+  pub groups-are : length (job .groups) ≡ groups
+
+-- filling a table from such lists, whatever the text that was read
+abbrev pub FilledBy : List ℕ → List ℕ → ℕ → ℕ → List ℕ → List ℕ → List ℕ → List ℕ → Reading → Type 0
+FilledBy least greatest units groups lows₀ highs₀ lows highs r =
+    (text : List ℕ) (job : Job) → readJob text ≡ accepted job → Fronts least greatest units groups job → Filled text lows₀ highs₀ lows highs r

@@ -10,7 +10,8 @@ use lib.ListN.{length, length-append}
 use Rattle.model.specs.Shares.{pick}
 use Rattle.text.specs.Parsed.{Parsed, parsed, failed}
 use Rattle.job.specs.Form.{Line, printLine, line}
-use Rattle.job.specs.Job.{Job, mostBytes, verdict, add, placeOf, judged, next, stepOn, Outcome, accepted, refused, refusal, onward, readLines, noLines, someUnit, readJob}
+use Rattle.job.specs.Job.{Job, mostBytes, verdict, add, placeOf, judged, next, stepOn, Outcome, accepted, refused, refusal, onward, readLines}
+use Rattle.job.specs.Job.{noLines, someUnit, readJob}
 use Rattle.job.specs.Laws.Reading.{line-long, read-next, read-end}
 use Rattle.job.specs.Laws.Sound.{accepted-sound}
 use Rattle.job.specs.Laws.Spelling.{line-printed, printed-line}

@@ -85,7 +85,8 @@ below-at n (x ∷ xs) zero b h = b .0
 below-at n (x ∷ xs) (suc i) b h = below-at n xs i (b .1) (omega arith)
 
 -- the next number of the list
-pub fresh-next : (marks xs : List ℕ) (i : ℕ) → i < length xs → freshBy marks (drop i xs) ≡ eqb (getD marks (getD xs i 0) 0) 0 && freshBy (set marks (getD xs i 0) 1) (drop (i + 1) xs)
+pub fresh-next : (marks xs : List ℕ) (i : ℕ) → i < length xs
+    → freshBy marks (drop i xs) ≡ eqb (getD marks (getD xs i 0) 0) 0 && freshBy (set marks (getD xs i 0) 1) (drop (i + 1) xs)
 unfolding freshBy
 fresh-next marks xs i h = rw (add-one, drop-cons xs i 0)
 

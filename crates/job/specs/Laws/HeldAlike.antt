@@ -18,7 +18,9 @@ use Rattle.text.specs.Laws.Parsed.{andThen-mapped, mapped-andThen, andThen-same
 use Rattle.text.specs.Numbers.{numberAfter}
 use Rattle.text.specs.Inner.Numbers.{held, most}
 use Rattle.job.specs.declared.lines.Head.{Head}
-use Rattle.job.specs.Form.{UnitLine, GroupLine, Line, unit, group, unitOpening, space, unitEnding, groupOpening, deviationOpening, spreadOpening, membersOpening, groupEnding, anyWord, numberAs, limitAs, unitAs, membersAs, headAs, grouped, groupAs, lineAs, line}
+use Rattle.job.specs.Form.{UnitLine, GroupLine, Line, unit, group, unitOpening, space, unitEnding, groupOpening, deviationOpening}
+use Rattle.job.specs.Form.{spreadOpening, membersOpening, groupEnding, anyWord}
+use Rattle.job.specs.Form.{numberAs, limitAs, unitAs, membersAs, headAs, grouped, groupAs, lineAs, line}
 use Rattle.groups.specs.Memberships.{memberships}
 use Rattle.job.specs.Job.{Job, unitVerdict, headVerdict, membersVerdict, verdict, named, allNamed, add, stepOn, judged, unless, distinct, first}
 use Rattle.model.specs.Laws.Tests.{both-left, both-right}
@@ -46,7 +48,8 @@ lineBy f (unit l) = unit (unitBy f l)
 lineBy f (group g) = group (groupBy f g)
 
 -- reading on from equal values gives equal values
-carried : {A A′ B B′ : Type 0} (h : A → A′) (g : B → B′) (p : Parsed A) {p′ : Parsed A′} (k : A → List ℕ → Parsed B) (k′ : A′ → List ℕ → Parsed B′) → p′ ≡ mapped h p → ((a : A) (s : List ℕ) → k′ (h a) s ≡ mapped g (k a s)) → andThen p′ k′ ≡ mapped g (andThen p k)
+carried : {A A′ B B′ : Type 0} (h : A → A′) (g : B → B′) (p : Parsed A) {p′ : Parsed A′} (k : A → List ℕ → Parsed B) (k′ : A′ → List ℕ → Parsed B′)
+    → p′ ≡ mapped h p → ((a : A) (s : List ℕ) → k′ (h a) s ≡ mapped g (k a s)) → andThen p′ k′ ≡ mapped g (andThen p k)
 carried h g p k k′ e same = rw e (andThen-mapped h p k′ ∙ andThen-same p _ _ same ∙ sym (mapped-andThen g p k))
 
 mapped-same : {A : Type 0} (p : Parsed A) → p ≡ mapped (λ a. a) p
@@ -71,7 +74,12 @@ module _ (f : ℕ → ℕ) where
   unfolding limitAs
   limit-by w s =
       carried (λ u. u) (limitBy f) (word w s) _ _ (mapped-same _)
-      (λ u s. rw (mapped-orElse, ← mapped-twice (λ u. Any) (limitBy f) (word anyWord s), ← mapped-twice AtMost (limitBy f) (numberAs same [] s), number-by [] s) (ap (λ p. orElse (mapped (λ u. Any) (word anyWord s)) p) (sym (mapped-twice f AtMost (numberAs same [] s)))))
+      (λ u s. rw (
+        mapped-orElse,
+        ← mapped-twice (λ u. Any) (limitBy f) (word anyWord s),
+        ← mapped-twice AtMost (limitBy f) (numberAs same [] s),
+        number-by [] s,
+      ) (ap (λ p. orElse (mapped (λ u. Any) (word anyWord s)) p) (sym (mapped-twice f AtMost (numberAs same [] s)))))
 
   unit-by : (s : List ℕ) → unitAs f s ≡ mapped (unitBy f) (unitAs same s)
   unfolding unitAs
@@ -84,7 +92,10 @@ module _ (f : ℕ → ℕ) where
   unfolding membersAs mapped
   members-by zero s = refl
   members-by (suc n) s =
-      let one = carried f (map f) (numberAs same space s) (λ m s. mapped (λ ms. m ∷ ms) (membersAs same n s)) (λ m s. mapped (λ ms. m ∷ ms) (membersAs f n s)) (number-by space s) (λ m s. rw (members-by n s) (sym (mapped-twice (map f) (λ ms. f m ∷ ms) (membersAs same n s)) ∙ mapped-twice (λ ms. m ∷ ms) (map f) (membersAs same n s))) in
+      let one = carried f (map f) (numberAs same space s) (λ m s. mapped (λ ms. m ∷ ms) (membersAs same n s))
+      (λ m s. mapped (λ ms. m ∷ ms) (membersAs f n s)) (number-by space s)
+      (λ m s. rw (members-by n s) (sym (mapped-twice (map f) (λ ms. f m ∷ ms) (membersAs same n s))
+      ∙ mapped-twice (λ ms. m ∷ ms) (map f) (membersAs same n s))) in
       ap (λ p. orElse p (parsed [] s)) one ∙ sym (mapped-orElse (map f) _ (parsed [] s))
 
   head-by : (s : List ℕ) → headAs f s ≡ mapped (headBy f) (headAs same s)
@@ -93,7 +104,8 @@ module _ (f : ℕ → ℕ) where
       carried f (headBy f) (numberAs same groupOpening s) _ _ (number-by groupOpening s)
       (λ total s. carried (limitBy f) (headBy f) (limitAs same deviationOpening s) _ _ (limit-by deviationOpening s)
       (λ deviation s. carried (limitBy f) (headBy f) (limitAs same spreadOpening s) _ _ (limit-by spreadOpening s)
-      (λ spread s. mapped-twice (λ u. record { total = total; limits = record { deviation = deviation; spread = spread } }) (headBy f) (word membersOpening s))))
+      (λ spread s. mapped-twice (λ u. record { total = total; limits = record { deviation = deviation; spread = spread } }) (headBy f)
+      (word membersOpening s))))
 
   grouped-by : (h : Head) (ms s : List ℕ) → grouped (headBy f h) (map f ms) s ≡ mapped (groupBy f) (grouped h ms s)
   unfolding grouped mapped
@@ -111,7 +123,15 @@ module _ (f : ℕ → ℕ) where
   line-by : (s : List ℕ) → lineAs f s ≡ mapped (lineBy f) (line s)
   unfolding lineAs line lineBy
   line-by s =
-      rw (mapped-orElse, unit-by s, group-by s, ← mapped-twice unit (lineBy f) (unitAs same s), ← mapped-twice group (lineBy f) (groupAs same s), ← mapped-twice (unitBy f) unit (unitAs same s), ← mapped-twice (groupBy f) group (groupAs same s))
+      rw (
+        mapped-orElse,
+        unit-by s,
+        group-by s,
+        ← mapped-twice unit (lineBy f) (unitAs same s),
+        ← mapped-twice group (lineBy f) (groupAs same s),
+        ← mapped-twice (unitBy f) unit (unitAs same s),
+        ← mapped-twice (groupBy f) group (groupAs same s),
+      )
 
 held-leb : (m k : ℕ) → k < most → leb (held m) k ≡ leb m k
 held-leb m k h =
@@ -159,21 +179,34 @@ unit-held units groups l =
       | yes p ↦
           elim (decLe (l .high) greatestShare) [
             | yes q ↦ let a : held (l .low) ≡ l .low = omega arith in let b : held (l .high) ≡ l .high = omega arith in rw (a, b)
-            | no q ↦ rw (held-leb (l .low) greatestShare (omega arith), held-leb (l .high) greatestShare (omega arith), lt-leb (l .high) greatestShare (omega arith))
+            | no q ↦ rw (
+              held-leb (l .low) greatestShare (omega arith),
+              held-leb (l .high) greatestShare (omega arith),
+              lt-leb (l .high) greatestShare (omega arith),
+            )
           ]
       | no p ↦ rw (held-leb (l .low) greatestShare (omega arith), lt-leb (l .low) greatestShare (omega arith))
     ]
 
-head-held : (groups taken total : ℕ) (limits : Limits) (count : ℕ) → headVerdict groups taken (held total) (limitsBy held limits) count ≡ headVerdict groups taken total limits count
+head-held : (groups taken total : ℕ) (limits : Limits) (count : ℕ)
+    → headVerdict groups taken (held total) (limitsBy held limits) count ≡ headVerdict groups taken total limits count
 unfolding headVerdict
 head-held groups taken total limits count =
-    rw (held-leb total greatestTotal (omega arith), limit-held greatestDeviation (limits .deviation) (omega arith), limit-held greatestSpread (limits .spread) (omega arith))
+    rw (
+      held-leb total greatestTotal (omega arith),
+      limit-held greatestDeviation (limits .deviation) (omega arith),
+      limit-held greatestSpread (limits .spread) (omega arith),
+    )
 
 verdict-held : (job : Job) (l : Line) → length (job .lows) < most → verdict job (lineBy held l) ≡ verdict job l
 unfolding verdict lineBy
 verdict-held job (unit l) h = unit-held (length (job .lows)) (length (job .groups)) l
 verdict-held job (group g) h =
-    rw (members-held (length (job .lows)) (g .first ∷ g .others) h, length-map (g .others) held, head-held (length (job .groups)) (memberships (job .groups)) (g .total) (g .limits) (suc (length (g .others))))
+    rw (
+      members-held (length (job .lows)) (g .first ∷ g .others) h,
+      length-map (g .others) held,
+      head-held (length (job .groups)) (memberships (job .groups)) (g .total) (g .limits) (suc (length (g .others))),
+    )
 
 line-kept : (job : Job) (l : Line) → length (job .lows) < most → verdict job l ≡ 0 → lineBy held l ≡ l
 unfolding verdict lineBy
@@ -189,7 +222,13 @@ line-kept job (group g) h e =
     let t : held (g .total) ≡ g .total = omega (arith, k .total-fits) in
     let f : held (g .first) ≡ g .first = cc in
     let o : map held (g .others) ≡ g .others = cc in
-    rw (t, limit-kept greatestDeviation (g .limits .deviation) (omega arith) (k .deviation-fits), limit-kept greatestSpread (g .limits .spread) (omega arith) (k .spread-fits), f, o)
+    rw (
+      t,
+      limit-kept greatestDeviation (g .limits .deviation) (omega arith) (k .deviation-fits),
+      limit-kept greatestSpread (g .limits .spread) (omega arith) (k .spread-fits),
+      f,
+      o,
+    )
 
 judged-same : (v : ℕ) (j k : Job) (s : List ℕ) (place : ℕ) → (v ≡ 0 → j ≡ k) → judged v j s place ≡ judged v k s place
 judged-same zero j k s place h = rw (h refl)

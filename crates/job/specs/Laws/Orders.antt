@@ -1,6 +1,7 @@
 -- A text with its group lines in another order is accepted too, as the same job but for the order of its groups. Assumes nothing.
 use Prim.Native.Nat.{ℕ}
-use mathlib.Core.List.{List, [], _∷_, _++_, flatten as joined, List·Memᴰ, List·Memᴰ·head, List·Memᴰ·tail, List·Permᴰ, List·Permᴰ·nil, List·Permᴰ·cons, List·Permᴰ·swap, List·Permᴰ·trans, Permᴰ·symm, Permᴰ·append-left}
+use mathlib.Core.List.{List, [], _∷_, _++_, flatten as joined, List·Memᴰ, List·Memᴰ·head, List·Memᴰ·tail, List·Permᴰ, List·Permᴰ·nil, List·Permᴰ·cons}
+use mathlib.Core.List.{List·Permᴰ·swap, List·Permᴰ·trans, Permᴰ·symm, Permᴰ·append-left}
 use mathlib.Core.Path.{_≡_, refl, sym, ap, _∙_}
 use native.Mathlib.Omega.{arith}
 use lib.ListN.{length, getD, length-append}
@@ -9,7 +10,8 @@ use Rattle.job.specs.Laws.Accepting.{accepted-takes, takes-accepted}
 use Rattle.job.specs.Form.{UnitLine, unit, group, printLine}
 use Rattle.job.specs.Job.{Job, verdict, add, accepted, readJob}
 use Rattle.job.specs.SameJob.{SameButOrder}
-use Rattle.job.specs.Laws.SameJob.{still-there, verdict-same, add-same, Follows, takes-same, second-first, first-second, swapped-same, unchanged, order-on}
+use Rattle.job.specs.Laws.SameJob.{still-there, verdict-same, add-same, Follows, takes-same, second-first, first-second, swapped-same}
+use Rattle.job.specs.Laws.SameJob.{unchanged, order-on}
 use Rattle.job.specs.TextLines.{linesOf}
 use Rattle.job.specs.Laws.TextLines.{joined-lines}
 use Rattle.job.specs.Orders.{OfGroup, Reordered}

@@ -10,8 +10,10 @@ use Rattle.model.specs.declared.Refusal.{Refusal}
 use Rattle.text.specs.Parsed.{Parsed, parsed, failed}
 use Rattle.job.specs.Form.{Line, unit, group, printLine, line}
 use Rattle.job.specs.Laws.Spelling.{printed-line}
-use Rattle.job.specs.Job.{Job, next, stop, stepOn, verdict, judged, add, placeOf, Outcome, accepted, refused, refusal, onward, readLines, readJob}
+use Rattle.job.specs.Job.{Job, next, stop, stepOn, verdict, judged, add, placeOf, Outcome, accepted, refused, refusal, onward, readLines}
+use Rattle.job.specs.Job.{readJob}
 use Rattle.job.specs.declared.Reading.the-variants.{Read, Refused}
+use Rattle.job.specs.Inner.Reading.{Fronts}
 use Rattle.job.specs.Reading.{readingOf, fitTable, readTable, Filled}
 
 -- a line has at least one byte
@@ -33,7 +35,8 @@ step-shorter job s (parsed l t) e k r h =
     omega (arith, ap length (printed-line s e), length-append (printLine l) t, line-long l, ap length n)
 
 -- the next line is taken
-pub read-next : (n : ℕ) (job : Job) (s : List ℕ) (k : Job) (r : List ℕ) → 0 < length s → length s ≤ n → stepOn job (line s) ≡ next k r → (m : ℕ) × (length r ≤ m) × (length r < length s) × (readLines n job s ≡ readLines m k r)
+pub read-next : (n : ℕ) (job : Job) (s : List ℕ) (k : Job) (r : List ℕ) → 0 < length s → length s ≤ n → stepOn job (line s) ≡ next k r
+    → (m : ℕ) × (length r ≤ m) × (length r < length s) × (readLines n job s ≡ readLines m k r)
 unfolding readLines onward
 read-next zero job s k r p l h = absurd (omega arith)
 read-next (suc n) job [] k r p l h = absurd (omega arith)
@@ -42,7 +45,8 @@ read-next (suc n) job (b ∷ s) k r p l h =
     (n, omega arith, d, rw h)
 
 -- the next line is refused
-pub read-stop : (n : ℕ) (job : Job) (s : List ℕ) (r : Refusal) → 0 < length s → length s ≤ n → stepOn job (line s) ≡ stop r → readLines n job s ≡ refused r
+pub read-stop : (n : ℕ) (job : Job) (s : List ℕ) (r : Refusal) → 0 < length s → length s ≤ n → stepOn job (line s) ≡ stop r
+    → readLines n job s ≡ refused r
 unfolding readLines onward
 read-stop zero job s r p l h = absurd (omega arith)
 read-stop (suc n) job [] r p l h = absurd (omega arith)
@@ -55,20 +59,33 @@ read-end zero job = refl
 read-end (suc n) job = refl
 
 -- a text refused leaves the table
-pub filled-refused : (text lows highs : List ℕ) (r : Refusal) → readTable text (length lows) (length highs) ≡ refused r → Filled text lows highs lows highs (Refused r)
+pub filled-refused : (text lows highs : List ℕ) (r : Refusal) → readTable text (length lows) (length highs) ≡ refused r
+    → Filled text lows highs lows highs (Refused r)
 filled-refused text lows highs r e = record { answer = rw e; lows-are = rw e; highs-are = rw e }
 
 -- a text accepted fills it from the front of the lists that hold the job
-pub filled-accepted : (text lows₀ highs₀ lows highs least greatest rest past : List ℕ) (job : Job) (units groups : ℕ) → readTable text (length lows₀) (length highs₀) ≡ accepted job → length (job .lows) ≡ units → length (job .highs) ≡ units → length (job .groups) ≡ groups → least ≡ job .lows ++ rest → greatest ≡ job .highs ++ past → lows ≡ take units least ++ drop units lows₀ → highs ≡ take units greatest ++ drop units highs₀ → Filled text lows₀ highs₀ lows highs (Read units groups)
-filled-accepted text lows₀ highs₀ lows highs least greatest rest past job units groups e u v g l m f h =
+pub filled-accepted : (text lows₀ highs₀ : List ℕ) {lows highs least greatest : List ℕ} {job : Job} {units groups : ℕ}
+    → readTable text (length lows₀) (length highs₀) ≡ accepted job → Fronts least greatest units groups job
+    → lows ≡ take units least ++ drop units lows₀ → highs ≡ take units greatest ++ drop units highs₀
+    → Filled text lows₀ highs₀ lows highs (Read units groups)
+filled-accepted text lows₀ highs₀ {job = job} {units = units} e f a b =
     record {
-      answer = rw (e, u, g);
-      lows-are = rw (e, f, l, u, take-at (job .lows) rest units u);
-      highs-are = rw (e, h, m, u, take-at (job .highs) past units v);
+      answer = rw (e, f .units-are, f .groups-are);
+      lows-are = rw (e, a, f .lows, f .units-are, take-at (job .lows) (f .rest) units (f .units-are));
+      highs-are = rw (e, b, f .highs, f .units-are, take-at (job .highs) (f .past) units (f .pairs));
     }
 
+-- which are long enough for them
+pub fronts-long : {least greatest : List ℕ} {units groups : ℕ} {job : Job} → Fronts least greatest units groups job
+    → (units ≤ length least) × (units ≤ length greatest)
+fronts-long {job = job} f = (
+  omega (arith, ap length (f .lows), length-append (job .lows) (f .rest), f .units-are),
+  omega (arith, ap length (f .highs), length-append (job .highs) (f .past), f .pairs),
+)
+
 -- the outcome behind an answer
-pub accepted-by : (o : Outcome) (units groups : ℕ) → Read units groups ≡ readingOf o → (job : Job) × (o ≡ accepted job) × (length (job .lows) ≡ units) × (length (job .groups) ≡ groups)
+pub accepted-by : (o : Outcome) (units groups : ℕ) → Read units groups ≡ readingOf o
+    → (job : Job) × (o ≡ accepted job) × (length (job .lows) ≡ units) × (length (job .groups) ≡ groups)
 accepted-by (accepted job) units groups h = (job, refl, cc, cc)
 accepted-by (refused r) units groups h = absurd (let z : _≡_ {A = ℕ} 0 1 = cc in omega arith)
 
@@ -94,6 +111,7 @@ module _ (text : List ℕ) (a b : ℕ) where
   table-fits job e h k = rw (e, le-leb (length (job .lows)) a h, le-leb (length (job .lows)) b k)
 
   -- too few highs
-  pub table-short-highs : (job : Job) → readJob text ≡ accepted job → length (job .lows) ≤ a → b < length (job .lows) → readTable text a b ≡ refused (refusal 1 0)
+  pub table-short-highs : (job : Job) → readJob text ≡ accepted job → length (job .lows) ≤ a → b < length (job .lows)
+      → readTable text a b ≡ refused (refusal 1 0)
   unfolding readTable fitTable
   table-short-highs job e h k = rw (e, le-leb (length (job .lows)) a h, lt-leb (length (job .lows)) b k)

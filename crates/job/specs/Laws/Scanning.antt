@@ -86,7 +86,8 @@ unfolding readJob
 too-long text h = rw (lt-leb (length text) mostBytes h)
 
 -- the lines are done
-pub done : (text : List ℕ) (at : ℕ) (job : Job) (n : ℕ) → length text ≤ at → readLines n job (drop at text) ≡ readLines (length text) noLines text → readLines (length text) noLines text ≡ accepted job
+pub done : (text : List ℕ) (at : ℕ) (job : Job) (n : ℕ) → length text ≤ at → readLines n job (drop at text) ≡ readLines (length text) noLines text
+    → readLines (length text) noLines text ≡ accepted job
 done text at job n h e = sym e ∙ ap (readLines n job) (drop-of-length-le text h) ∙ read-end n job
 
 never : {job : Job} {r : Refusal} {o : Outcome} → o ≡ refused r → o ≡ accepted job → ⊥
@@ -104,7 +105,8 @@ module _ (text lows₀ highs₀ flat₀ lows highs flat : List ℕ) where
       }
 
   -- an accepted text is held in the lists
-  pub scanned-accepted : (job : Job) (p : Progress) → readJob text ≡ accepted job → Holds job p (lists lows₀ highs₀ flat₀ lows highs flat) → Scanned text lows₀ highs₀ flat₀ lows highs flat (Read (p .units) (p .groups))
+  pub scanned-accepted : (job : Job) (p : Progress) → readJob text ≡ accepted job → Holds job p (lists lows₀ highs₀ flat₀ lows highs flat)
+      → Scanned text lows₀ highs₀ flat₀ lows highs flat (Read (p .units) (p .groups))
   scanned-accepted job p e holds =
       let held : (k : Job) → readJob text ≡ accepted k → job ≡ k = λ k f. cc in
       record {
@@ -118,7 +120,11 @@ module _ (text lows₀ highs₀ flat₀ lows highs flat : List ℕ) where
       }
 
 -- a line more
-pub on-line : {text lows₀ highs₀ flat₀ lows highs flat lows′ highs′ flat′ : List ℕ} {at : ℕ} {p : Progress} (g : Going text lows₀ highs₀ flat₀ lows highs flat at p) (q : Progress) (spot : Spot) → at < length text → Answers text (lists lows₀ highs₀ flat₀ lows′ highs′ flat′) (taken.Line q spot) (stepOn (g .job) (line (drop at text))) → length lows′ ≡ length lows → length highs′ ≡ length highs → length flat′ ≡ length flat → (length (drop (spot .at) text) < length (drop at text)) × Going text lows₀ highs₀ flat₀ lows′ highs′ flat′ (spot .at) q
+pub on-line : {text lows₀ highs₀ flat₀ lows highs flat lows′ highs′ flat′ : List ℕ} {at : ℕ} {p : Progress}
+    (g : Going text lows₀ highs₀ flat₀ lows highs flat at p) (q : Progress) (spot : Spot) → at < length text
+    → Answers text (lists lows₀ highs₀ flat₀ lows′ highs′ flat′) (taken.Line q spot) (stepOn (g .job) (line (drop at text)))
+    → length lows′ ≡ length lows → length highs′ ≡ length highs → length flat′ ≡ length flat
+    → (length (drop (spot .at) text) < length (drop at text)) × Going text lows₀ highs₀ flat₀ lows′ highs′ flat′ (spot .at) q
 on-line {text} {at = at} g q spot h a ll hl fl =
     let n = read-next (g .lines) (g .job) (drop at text) (a .0) (drop (spot .at) text) (left text at h) (g .enough) (a .1) in (
       n .2,
@@ -135,10 +141,12 @@ on-line {text} {at = at} g q spot h a ll hl fl =
     )
 
 -- a line refused
-pub off-line : {text lows₀ highs₀ flat₀ lows highs flat : List ℕ} {at : ℕ} {p : Progress} (g : Going text lows₀ highs₀ flat₀ lows highs flat at p) (r : Refusal) → at < length text → stepOn (g .job) (line (drop at text)) ≡ stop r → readLines (length text) noLines text ≡ refused r
+pub off-line : {text lows₀ highs₀ flat₀ lows highs flat : List ℕ} {at : ℕ} {p : Progress} (g : Going text lows₀ highs₀ flat₀ lows highs flat at p)
+    (r : Refusal) → at < length text → stepOn (g .job) (line (drop at text)) ≡ stop r → readLines (length text) noLines text ≡ refused r
 off-line {text} {at = at} g r h a = sym (g .same) ∙ read-stop (g .lines) (g .job) (drop at text) r (left text at h) (g .enough) a
 
-module _ {text lows₀ highs₀ flat₀ lows highs flat : List ℕ} {at : ℕ} {p : Progress} (short : length text ≤ mostBytes) (g : Going text lows₀ highs₀ flat₀ lows highs flat at p) where
+module _ {text lows₀ highs₀ flat₀ lows highs flat : List ℕ} {at : ℕ} {p : Progress} (short : length text ≤ mostBytes)
+    (g : Going text lows₀ highs₀ flat₀ lows highs flat at p) where
   -- the lines are done, and the counts are the answer
   pub scanned-counts : length text ≤ at → Scanned text lows₀ highs₀ flat₀ lows highs flat (countsOf p)
   unfolding countsOf
@@ -146,11 +154,13 @@ module _ {text lows₀ highs₀ flat₀ lows highs flat : List ℕ} {at : ℕ} {
       let all = done text at (g .job) (g .lines) h (g .same) in
       elim (ℕ-discrete (p .units) 0) [
         | yes z ↦ rw (eq-eqb (p .units) 0 z) (scanned-refused _ _ _ _ _ _ _ _ (no-unit _ short (g .job) all (g .holds .units ∙ z)))
-        | no n ↦ rw (ne-eqb (p .units) 0 n) (scanned-accepted _ _ _ _ _ _ _ (g .job) p (some-unit _ short (g .job) all (λ z. n (sym (g .holds .units) ∙ z))) (g .holds))
+        | no n ↦ rw (ne-eqb (p .units) 0 n) (scanned-accepted _ _ _ _ _ _ _ (g .job) p
+            (some-unit _ short (g .job) all (λ z. n (sym (g .holds .units) ∙ z))) (g .holds))
       ]
 
   -- a line is refused, and its refusal is the answer, whatever the lists hold
-  pub scanned-stop : (lows′ highs′ flat′ : List ℕ) (r : Refusal) → at < length text → stepOn (g .job) (line (drop at text)) ≡ stop r → Scanned text lows₀ highs₀ flat₀ lows′ highs′ flat′ (Refused r)
+  pub scanned-stop : (lows′ highs′ flat′ : List ℕ) (r : Refusal) → at < length text → stepOn (g .job) (line (drop at text)) ≡ stop r
+      → Scanned text lows₀ highs₀ flat₀ lows′ highs′ flat′ (Refused r)
   scanned-stop lows′ highs′ flat′ r h a = scanned-refused _ _ _ _ _ _ _ r (line-refused _ short r (off-line g r h a))
 
 -- a moment of the reading: the spot before a line, and what was read up to it

@@ -14,7 +14,8 @@ use Rattle.text.specs.Parsed.{Parsed, parsed, failed}
 use Rattle.job.specs.Form.{Line, unit, group, line}
 use Rattle.groups.specs.Memberships.{memberships}
 use Rattle.groups.specs.Laws.Storing.{memberships-snoc}
-use Rattle.job.specs.Job.{Job, mostBytes, groupOf, verdict, add, placeOf, judged, Stepped, next, stop, stepOn, Outcome, accepted, refused, refusal, onward, readLines, noLines, someUnit, readJob}
+use Rattle.job.specs.Job.{Job, mostBytes, groupOf, verdict, add, placeOf, judged, Stepped, next, stop, stepOn, Outcome, accepted, refused}
+use Rattle.job.specs.Job.{refusal, onward, readLines, noLines, someUnit, readJob}
 use Rattle.job.specs.Laws.Distinct.{distinct-members, members-below, below-at, distinct-at}
 use Rattle.job.specs.Laws.Verdicts.{unit-good, first-zero, head-good, members-good}
 use Rattle.job.specs.Sound.{AcceptedGroup, none, also, AcceptedGroups, Built, Sound}
@@ -84,7 +85,8 @@ built-lines (suc n) job [] k b h = let e : job ≡ k = cc in rw (← e) b
 built-lines (suc n) job (c ∷ s) k b h =
     by-step (stepOn job (line (c ∷ s))) (λ j r e f. built-lines n j r k (built-step job (line (c ∷ s)) j r b e) f) refl h
   where
-    by-step : (t : Stepped) → ((j : Job) (r : List ℕ) → stepOn job (line (c ∷ s)) ≡ next j r → readLines n j r ≡ accepted k → Built k) → stepOn job (line (c ∷ s)) ≡ t → onward (λ j r. readLines n j r) t ≡ accepted k → Built k
+    by-step : (t : Stepped) → ((j : Job) (r : List ℕ) → stepOn job (line (c ∷ s)) ≡ next j r → readLines n j r ≡ accepted k → Built k)
+        → stepOn job (line (c ∷ s)) ≡ t → onward (λ j r. readLines n j r) t ≡ accepted k → Built k
     by-step (next j r) again e f = again j r e f
     by-step (stop r) again e f = absurd (let z : _≡_ {A = ℕ} 0 1 = cc in omega arith)
 
@@ -92,7 +94,8 @@ sound-unit : (o : Outcome) (k : Job) → ((j : Job) → o ≡ accepted j → Bui
 unfolding someUnit
 sound-unit (accepted job) k b h =
     elim (ℕ-discrete (length (job .lows)) 0) [
-      | yes p ↦ absurd (let e : refused (refusal 10 0) ≡ accepted k = rw (eq-eqb (length (job .lows)) 0 p) at h in let z : _≡_ {A = ℕ} 0 1 = cc in omega arith)
+      | yes p ↦ absurd (let e : refused (refusal 10 0) ≡ accepted k =
+          rw (eq-eqb (length (job .lows)) 0 p) at h in let z : _≡_ {A = ℕ} 0 1 = cc in omega arith)
       | no p ↦
           let e : accepted job ≡ accepted k = rw (ne-eqb (length (job .lows)) 0 p) at h in
           let f : job ≡ k = cc in

@@ -12,7 +12,9 @@ use Rattle.text.specs.Laws.Parsed.{then-parsed, mapped-parsed, either-parsed, w
 use Rattle.text.specs.Numbers.{numberAfter, printNumber}
 use Rattle.text.specs.Laws.Printed.{Ends, number-printed, printed-number, number-not-word}
 use Rattle.job.specs.declared.lines.Head.{Head}
-use Rattle.job.specs.Form.{UnitLine, GroupLine, Line, unit, group, unitOpening, unitEnding, groupOpening, deviationOpening, spreadOpening, membersOpening, anyWord, space, groupEnding, printLimit, printMembers, printLine, numberAs, limitAs, unitAs, membersAs, headAs, grouped, groupAs, lineAs, line}
+use Rattle.job.specs.Form.{UnitLine, GroupLine, Line, unit, group, unitOpening, unitEnding, groupOpening, deviationOpening, spreadOpening}
+use Rattle.job.specs.Form.{membersOpening, anyWord, space, groupEnding, printLimit, printMembers, printLine}
+use Rattle.job.specs.Form.{numberAs, limitAs, unitAs, membersAs, headAs, grouped, groupAs, lineAs, line}
 
 -- the number as it is
 abbrev same : ℕ → ℕ
@@ -26,7 +28,11 @@ read-limit : (w : List ℕ) (l : Limit) (s : List ℕ) → Ends s → limitAs sa
 unfolding limitAs printLimit andThen orElse mapped word
 read-limit w Any s h = rw (word-own w (anyWord ++ s))
 read-limit w (AtMost v) s h =
-    rw (word-own w (printNumber v ++ s), number-not-word 97 (110 ∷ 121 ∷ []) (printNumber v ++ s) v s refl (number-printed v s h), read-number [] v s h)
+    rw (
+      word-own w (printNumber v ++ s),
+      number-not-word 97 (110 ∷ 121 ∷ []) (printNumber v ++ s) v s refl (number-printed v s h),
+      read-number [] v s h,
+    )
 
 no-member : (s : List ℕ) → numberAs same space (41 ∷ s) ≡ failed
 unfolding numberAs numberAfter andThen mapped word
@@ -43,7 +49,11 @@ read-members zero [] s h = refl
 read-members (suc n) [] s h = rw (no-member s)
 read-members zero (m ∷ ms) s h = absurd (omega arith)
 read-members (suc n) (m ∷ ms) s h =
-    rw (append-assoc (printNumber m) (printMembers ms) (41 ∷ s), read-number space m (printMembers ms ++ 41 ∷ s) (members-end ms s), read-members n ms s (omega arith))
+    rw (
+      append-assoc (printNumber m) (printMembers ms) (41 ∷ s),
+      read-number space m (printMembers ms ++ 41 ∷ s) (members-end ms s),
+      read-members n ms s (omega arith),
+    )
 
 members-long : (ms s : List ℕ) → length ms ≤ length (printMembers ms ++ s)
 unfolding printMembers
@@ -72,7 +82,12 @@ read-group g s =
     let t₁ : List ℕ = spreadOpening ++ (printLimit (g .limits .spread) ++ t₂) in
     let t₀ : List ℕ = deviationOpening ++ (printLimit (g .limits .deviation) ++ t₁) in
     simp append-assoc
-    (rw (read-number groupOpening (g .total) t₀ refl, read-limit deviationOpening (g .limits .deviation) t₁ refl, read-limit spreadOpening (g .limits .spread) t₂ refl, read-members (length t₃) ms e (members-long ms (41 ∷ e))))
+    (rw (
+      read-number groupOpening (g .total) t₀ refl,
+      read-limit deviationOpening (g .limits .deviation) t₁ refl,
+      read-limit spreadOpening (g .limits .spread) t₂ refl,
+      read-members (length t₃) ms e (members-long ms (41 ∷ e)),
+    ))
 
 -- a printed line reads as itself
 pub line-printed : (l : Line) (s : List ℕ) → line (printLine l ++ s) ≡ parsed l s
@@ -91,7 +106,8 @@ printed-numberAs w s {v} {r} h =
     let a = then-parsed (word w s) _ (m .1) in
     rw (← m .2) (on w (word-parsed w s (a .2)) (printed-number (a .1) (m .0) r (a .3)))
 
-printed-bound : (s : List ℕ) {l : Limit} {r : List ℕ} → orElse (mapped (λ u. Any) (word anyWord s)) (mapped AtMost (numberAs same [] s)) ≡ parsed l r → s ≡ printLimit l ++ r
+printed-bound : (s : List ℕ) {l : Limit} {r : List ℕ} → orElse (mapped (λ u. Any) (word anyWord s)) (mapped AtMost (numberAs same [] s)) ≡ parsed l r
+    → s ≡ printLimit l ++ r
 unfolding printLimit
 printed-bound s h =
     ⊎-elim
@@ -113,11 +129,13 @@ printed-members (suc n) s {ms} {r} h =
     let m = mapped-parsed (λ ms. a .0 ∷ ms) (membersAs same n (a .1)) (a .3) in
     rw (← m .2)
     (printed-numberAs space s (a .2)
-    ∙ ap (λ l. 32 ∷ l) (ap (λ l. printNumber (a .0) ++ l) (printed-members n (a .1) (m .1)) ∙ sym (append-assoc (printNumber (a .0)) (printMembers (m .0)) r))))
+    ∙ ap (λ l. 32 ∷ l) (ap (λ l. printNumber (a .0) ++ l) (printed-members n (a .1) (m .1))
+    ∙ sym (append-assoc (printNumber (a .0)) (printMembers (m .0)) r))))
     (λ e. let i : [] ≡ ms = cc in let k : s ≡ r = cc in rw (← i, k))
     (either-parsed (andThen (numberAs same space s) (λ m s. mapped (λ ms. m ∷ ms) (membersAs same n s))) (parsed [] s) h)
 
-unit-onto : (l : UnitLine) (r : List ℕ) → unitOpening ++ (printNumber (l .low) ++ (space ++ (printNumber (l .high) ++ (unitEnding ++ r)))) ≡ printLine (unit l) ++ r
+unit-onto : (l : UnitLine) (r : List ℕ)
+    → unitOpening ++ (printNumber (l .low) ++ (space ++ (printNumber (l .high) ++ (unitEnding ++ r)))) ≡ printLine (unit l) ++ r
 unfolding printLine
 unit-onto l r = simp append-assoc
 
@@ -128,11 +146,14 @@ printed-unit s {l} {r} h =
     let b = then-parsed (numberAs same space (a .1)) _ (a .3) in
     let e = mapped-parsed _ (word unitEnding (b .1)) (b .3) in
     (printed-numberAs unitOpening s (a .2)
-    ∙ ap (λ l. unitOpening ++ (printNumber (a .0) ++ l)) (printed-numberAs space (a .1) (b .2) ∙ ap (λ l. space ++ (printNumber (b .0) ++ l)) (word-parsed unitEnding (b .1) (e .1))))
+    ∙ ap (λ l. unitOpening ++ (printNumber (a .0) ++ l))
+    (printed-numberAs space (a .1) (b .2) ∙ ap (λ l. space ++ (printNumber (b .0) ++ l)) (word-parsed unitEnding (b .1) (e .1))))
     ∙ unit-onto (record { low = a .0; high = b .0 }) r
     ∙ ap (λ l. printLine (unit l) ++ r) (e .2)
 
-printed-head : (s : List ℕ) {h : Head} {r : List ℕ} → headAs same s ≡ parsed h r → s ≡ groupOpening ++ (printNumber (h .total) ++ (deviationOpening ++ (printLimit (h .limits .deviation) ++ (spreadOpening ++ (printLimit (h .limits .spread) ++ (membersOpening ++ r))))))
+printed-head : (s : List ℕ) {h : Head} {r : List ℕ} → headAs same s ≡ parsed h r
+    → s ≡ groupOpening ++ (printNumber (h .total) ++ (deviationOpening ++ (printLimit (h .limits .deviation)
+    ++ (spreadOpening ++ (printLimit (h .limits .spread) ++ (membersOpening ++ r))))))
 unfolding headAs
 printed-head s {h} {r} k =
     let a = then-parsed (numberAs same groupOpening s) _ k in
@@ -145,10 +166,13 @@ printed-head s {h} {r} k =
     ∙ ap (λ l. deviationOpening ++ (printLimit (b .0) ++ l)) (printed-limit spreadOpening (b .1) (c .2)
     ∙ ap (λ l. spreadOpening ++ (printLimit (c .0) ++ l)) (word-parsed membersOpening (c .1) (e .1)))))
 
-printed-grouped : (h : Head) (ms s : List ℕ) {g : GroupLine} {r : List ℕ} → grouped h ms s ≡ parsed g r → (h .total ≡ g .total) × (h .limits ≡ g .limits) × (ms ≡ g .first ∷ g .others) × (s ≡ r)
+printed-grouped : (h : Head) (ms s : List ℕ) {g : GroupLine} {r : List ℕ} → grouped h ms s ≡ parsed g r
+    → (h .total ≡ g .total) × (h .limits ≡ g .limits) × (ms ≡ g .first ∷ g .others) × (s ≡ r)
 unfolding grouped
 printed-grouped h [] s k = absurd (let z : _≡_ {A = ℕ} 0 1 = cc in omega arith)
-printed-grouped h (m ∷ ms) s {g} {r} k = let e : record { total = h .total; limits = h .limits; first = m; others = ms } ≡ g = cc in (ap (λ g. g .total) e, ap (λ g. g .limits) e, rw (← e), cc)
+printed-grouped h (m ∷ ms) s {g} {r} k =
+    let e : record { total = h .total; limits = h .limits; first = m; others = ms } ≡ g = cc in
+    (ap (λ g. g .total) e, ap (λ g. g .limits) e, rw (← e), cc)
 
 printed-group : (s : List ℕ) {g : GroupLine} {r : List ℕ} → groupAs same s ≡ parsed g r → s ≡ printLine (group g) ++ r
 unfolding groupAs printLine

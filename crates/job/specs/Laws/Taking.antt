@@ -12,7 +12,8 @@ use Rattle.job.specs.Form.{UnitLine, GroupLine, unit, group, unitAs, gro
 use Rattle.job.specs.Laws.HeldAlike.{step-held}
 use Rattle.groups.specs.Inner.Flat.{mostFlat, headLength, headOf, flatGroup, flatten, flatLength}
 use Rattle.groups.specs.Laws.Storing.{flatten-snoc, length-flatten, memberships-snoc, stored, put-behind}
-use Rattle.job.specs.Job.{Job, mostUnits, unitVerdict, headVerdict, membersVerdict, verdict, first, memberOf, groupOf, add, refusal, placeOf, judged, next, stop, stepOn}
+use Rattle.job.specs.Job.{Job, mostUnits, unitVerdict, headVerdict, membersVerdict, verdict, first, memberOf, groupOf, add, refusal, placeOf}
+use Rattle.job.specs.Job.{judged, next, stop, stepOn}
 use Rattle.job.specs.Laws.Tally.{numbersOf}
 use Rattle.job.specs.Laws.Verdicts.{unit-good, head-good}
 use Rattle.job.specs.Inner.Steps.{Lists, Holds}
@@ -37,7 +38,8 @@ module _ (job : Job) (p : Progress) (l : Lists) (holds : Holds job p l) where
   unit-verdict u = rw (holds .units, holds .groups)
 
   -- a unit line with a refusal
-  pub unit-refused : (u : UnitLine) (s : List ℕ) (v : ℕ) → v ≡ unitVerdict (p .units) (p .groups) u → (v ≡ 0 → ⊥) → stepOn job (parsed (unit u) s) ≡ stop (refusal v (placeAt p))
+  pub unit-refused : (u : UnitLine) (s : List ℕ) (v : ℕ) → v ≡ unitVerdict (p .units) (p .groups) u → (v ≡ 0 → ⊥)
+      → stepOn job (parsed (unit u) s) ≡ stop (refusal v (placeAt p))
   unfolding stepOn
   unit-refused u s v e n = rw (unit-verdict u, ← e, judged-stop v (add job (unit u)) s (placeOf job) n, place-held)
 
@@ -51,7 +53,16 @@ module _ (job : Job) (p : Progress) (l : Lists) (holds : Holds job p l) where
       omega (arith, ap length f, length-append xs (drop (p .units) d), length-drop (p .units) d)
 
   -- the lists with a unit more hold the job with it
-  pub unit-holds : (u : UnitLine) → unitVerdict (p .units) (p .groups) u ≡ 0 → mostUnits ≤ length (l .lows) → mostUnits ≤ length (l .highs) → Holds (add job (unit u)) (record { units = p .units + 1; groups = p .groups; memberships = p .memberships }) (record { lows₀ = l .lows₀; highs₀ = l .highs₀; flat₀ = l .flat₀; lows = set (l .lows) (p .units) (u .low); highs = set (l .highs) (p .units) (u .high); flat = l .flat })
+  pub unit-holds : (u : UnitLine) → unitVerdict (p .units) (p .groups) u ≡ 0 → mostUnits ≤ length (l .lows) → mostUnits ≤ length (l .highs)
+      → Holds (add job (unit u)) (record { units = p .units + 1; groups = p .groups; memberships = p .memberships })
+      (record {
+        lows₀ = l .lows₀;
+        highs₀ = l .highs₀;
+        flat₀ = l .flat₀;
+        lows = set (l .lows) (p .units) (u .low);
+        highs = set (l .highs) (p .units) (u .high);
+        flat = l .flat;
+      })
   unfolding add
   unit-holds u e a b =
       let g = unit-good (p .units) (p .groups) u e in
@@ -61,8 +72,10 @@ module _ (job : Job) (p : Progress) (l : Lists) (holds : Holds job p l) where
         pairs = rw (length-append, holds .pairs);
         groups = holds .groups;
         taken = holds .taken;
-        lows = rw (holds .lows) (put-behind (job .lows) (l .lows₀) (p .units) (u .low) (holds .units) (room (job .lows) (l .lows₀) (l .lows) (holds .units) (holds .lows) (omega (arith, g .room))));
-        highs = rw (holds .highs) (put-behind (job .highs) (l .highs₀) (p .units) (u .high) (holds .pairs) (room (job .highs) (l .highs₀) (l .highs) (holds .pairs) (holds .highs) (omega (arith, g .room))));
+        lows = rw (holds .lows) (put-behind (job .lows) (l .lows₀) (p .units) (u .low) (holds .units)
+            (room (job .lows) (l .lows₀) (l .lows) (holds .units) (holds .lows) (omega (arith, g .room))));
+        highs = rw (holds .highs) (put-behind (job .highs) (l .highs₀) (p .units) (u .high) (holds .pairs)
+            (room (job .highs) (l .highs₀) (l .highs) (holds .pairs) (holds .highs) (omega (arith, g .room))));
         flat = holds .flat;
       }
 
@@ -94,18 +107,31 @@ module _ (job : Job) (p : Progress) (l : Lists) (holds : Holds job p l) (g : Gro
   fits : headNumber ≡ 0 → mostFlat ≤ length (l .flat) → start + headLength + length (numbersOf g) ≤ length (l .flat₀)
   fits e h =
       let k = head-good _ _ (g .total) (g .limits) _ e in
-      omega (arith, k .room, k .fits, ap length (holds .flat), length-append (flatten (job .groups)) (drop start (l .flat₀)), length-drop start (l .flat₀), length-flatten (job .groups), holds .groups, holds .taken)
+      omega (
+        arith,
+        k .room,
+        k .fits,
+        ap length (holds .flat),
+        length-append (flatten (job .groups)) (drop start (l .flat₀)),
+        length-drop start (l .flat₀),
+        length-flatten (job .groups),
+        holds .groups,
+        holds .taken,
+      )
 
   -- the numbers of a group before its members
   abbrev pub headNumbers : List ℕ
   headNumbers = headOf (g .total) (g .limits) (length (numbersOf g))
 
-  flat-stored : headNumber ≡ 0 → mostFlat ≤ length (l .flat) → sets (sets (l .flat) (start + headLength) (map memberOf (numbersOf g))) start headNumbers ≡ flatten (job .groups ++ groupOf g ∷ []) ++ drop (flatLength (p .groups + 1) (p .memberships + length (numbersOf g))) (l .flat₀)
+  flat-stored : headNumber ≡ 0 → mostFlat ≤ length (l .flat)
+      → sets (sets (l .flat) (start + headLength) (map memberOf (numbersOf g))) start headNumbers
+      ≡ flatten (job .groups ++ groupOf g ∷ []) ++ drop (flatLength (p .groups + 1) (p .memberships + length (numbersOf g))) (l .flat₀)
   flat-stored e h =
       let ms : List ℕ = map memberOf (numbersOf g) in
       let n : length ms ≡ length (numbersOf g) = length-map (numbersOf g) memberOf in
       let before : length (flatten (job .groups)) ≡ start = length-flatten (job .groups) ∙ rw (holds .groups, holds .taken) in
-      let whole : flatten (job .groups) ++ flatGroup (groupOf g) ≡ flatten (job .groups ++ groupOf g ∷ []) = sym (flatten-snoc (job .groups) (groupOf g)) in
+      let whole : flatten (job .groups) ++ flatGroup (groupOf g) ≡ flatten (job .groups ++ groupOf g ∷ []) =
+      sym (flatten-snoc (job .groups) (groupOf g)) in
       let end : start + headLength + length ms ≡ flatLength (p .groups + 1) (p .memberships + length (numbersOf g)) = omega arith in
       ap (λ f. sets (sets f (start + headLength) ms) start headNumbers) (holds .flat)
       ∙ ap (λ k. sets (sets (flatten (job .groups) ++ drop start (l .flat₀)) (start + headLength) ms) start (headOf (g .total) (g .limits) k)) (sym n)
@@ -114,7 +140,10 @@ module _ (job : Job) (p : Progress) (l : Lists) (holds : Holds job p l) (g : Gro
       ∙ ap (λ k. flatten (job .groups ++ groupOf g ∷ []) ++ drop k (l .flat₀)) end
 
   -- the lists with a group more hold the job with it
-  pub group-holds : (count : ℕ) (flat : List ℕ) → headNumber ≡ 0 → mostFlat ≤ length (l .flat) → length (numbersOf g) ≡ count → flat ≡ sets (sets (l .flat) (start + headLength) (map memberOf (numbersOf g))) start headNumbers → Holds (add job (group g)) (record { units = p .units; groups = p .groups + 1; memberships = p .memberships + count }) (record { lows₀ = l .lows₀; highs₀ = l .highs₀; flat₀ = l .flat₀; lows = l .lows; highs = l .highs; flat = flat })
+  pub group-holds : (count : ℕ) (flat : List ℕ) → headNumber ≡ 0 → mostFlat ≤ length (l .flat) → length (numbersOf g) ≡ count
+      → flat ≡ sets (sets (l .flat) (start + headLength) (map memberOf (numbersOf g))) start headNumbers
+      → Holds (add job (group g)) (record { units = p .units; groups = p .groups + 1; memberships = p .memberships + count })
+      (record { lows₀ = l .lows₀; highs₀ = l .highs₀; flat₀ = l .flat₀; lows = l .lows; highs = l .highs; flat = flat })
   unfolding add
   group-holds count flat e h n s =
       let k = head-good _ _ (g .total) (g .limits) _ e in
@@ -130,18 +159,21 @@ module _ (job : Job) (p : Progress) (l : Lists) (holds : Holds job p l) (g : Gro
       }
 
 -- equal heads are stored alike
-pub heads-alike : (d : List ℕ) (at : ℕ) {t u : ℕ} {l k : Limits} {n m : ℕ} → t ≡ u → l ≡ k → n ≡ m → sets d at (headOf t l n) ≡ sets d at (headOf u k m)
+pub heads-alike : (d : List ℕ) (at : ℕ) {t u : ℕ} {l k : Limits} {n m : ℕ} → t ≡ u → l ≡ k → n ≡ m
+    → sets d at (headOf t l n) ≡ sets d at (headOf u k m)
 heads-alike d at e f g = rw (e, f, g)
 
 -- a line that is no unit line is taken as a group line
-pub line-is-group : (job : Job) (p : Progress) (l : Lists) → Holds job p l → (s : List ℕ) → unitAs held s ≡ failed → stepOn job (mapped group (groupAs held s)) ≡ stepOn job (line s)
+pub line-is-group : (job : Job) (p : Progress) (l : Lists) → Holds job p l → (s : List ℕ) → unitAs held s ≡ failed
+    → stepOn job (mapped group (groupAs held s)) ≡ stepOn job (line s)
 unfolding lineAs mapped orElse
 line-is-group job p l holds s h =
     sym (ap (λ p. stepOn job (orElse (mapped unit p) (mapped group (groupAs held s)))) h)
     ∙ step-held job s (omega (arith, holds .units, holds .bounded .units))
 
 -- a unit line is taken as one
-pub line-is-unit : (job : Job) (p : Progress) (l : Lists) → Holds job p l → (s : List ℕ) (u : UnitLine) (r : List ℕ) → unitAs held s ≡ parsed u r → stepOn job (parsed (unit u) r) ≡ stepOn job (line s)
+pub line-is-unit : (job : Job) (p : Progress) (l : Lists) → Holds job p l → (s : List ℕ) (u : UnitLine) (r : List ℕ) → unitAs held s ≡ parsed u r
+    → stepOn job (parsed (unit u) r) ≡ stepOn job (line s)
 unfolding lineAs mapped orElse
 line-is-unit job p l holds s u r h =
     sym (ap (λ p. stepOn job (orElse (mapped unit p) (mapped group (groupAs held s)))) h)

@@ -32,7 +32,9 @@ collect units from zero t s = parsed t s
 collect units from (suc n) t s =
     orElse (andThen (numberAs held space s) (λ m s. collect units from n (noted units from t m) s)) (parsed t s)
 
-one-by-one : (units from : ℕ) (t : Tally) (m : ℕ) (s : List ℕ) (q : Parsed (List ℕ)) → orElse (mapped (notedAll units from (noted units from t m)) q) (parsed t s) ≡ mapped (notedAll units from t) (orElse (mapped (λ ms. m ∷ ms) q) (parsed [] s))
+one-by-one : (units from : ℕ) (t : Tally) (m : ℕ) (s : List ℕ) (q : Parsed (List ℕ))
+    → orElse (mapped (notedAll units from (noted units from t m)) q) (parsed t s)
+    ≡ mapped (notedAll units from t) (orElse (mapped (λ ms. m ∷ ms) q) (parsed [] s))
 unfolding notedAll mapped orElse
 one-by-one units from t m s (parsed ms r) = refl
 one-by-one units from t m s failed = refl
@@ -42,11 +44,15 @@ unfolding collect notedAll membersAs mapped andThen orElse
 collect-all units from zero t s = refl
 collect-all units from (suc n) t s = by-next (numberAs held space s) (λ m r. collect-all units from n (noted units from t m) r)
   where
-    by-next : (p : Parsed ℕ) → ((m : ℕ) (r : List ℕ) → collect units from n (noted units from t m) r ≡ mapped (notedAll units from (noted units from t m)) (membersAs held n r)) → orElse (andThen p (λ m s. collect units from n (noted units from t m) s)) (parsed t s) ≡ mapped (notedAll units from t) (orElse (andThen p (λ m s. mapped (λ ms. m ∷ ms) (membersAs held n s))) (parsed [] s))
+    by-next : (p : Parsed ℕ) → ((m : ℕ) (r : List ℕ) → collect units from n (noted units from t m) r
+        ≡ mapped (notedAll units from (noted units from t m)) (membersAs held n r))
+        → orElse (andThen p (λ m s. collect units from n (noted units from t m) s)) (parsed t s)
+        ≡ mapped (notedAll units from t) (orElse (andThen p (λ m s. mapped (λ ms. m ∷ ms) (membersAs held n s))) (parsed [] s))
     by-next (parsed m r) again = rw (again m r) (one-by-one units from t m s (membersAs held n r))
     by-next failed again = refl
 
-noted-all : (units from : ℕ) (t : Tally) (ms : List ℕ) → notedAll units from t ms ≡ record { count = t .count + length ms; within = t .within && allNamed units ms; flat = sets (t .flat) (from + t .count) (map memberOf ms) }
+noted-all : (units from : ℕ) (t : Tally) (ms : List ℕ) → notedAll units from t ms
+    ≡ record { count = t .count + length ms; within = t .within && allNamed units ms; flat = sets (t .flat) (from + t .count) (map memberOf ms) }
 unfolding notedAll allNamed
 noted-all units from t [] = let c : t .count + 0 ≡ t .count = omega arith in rw (c, and-true (t .within))
 noted-all units from t (m ∷ ms) =
@@ -55,7 +61,8 @@ noted-all units from t (m ∷ ms) =
     noted-all units from (noted units from t m) ms ∙ rw (c, k, and-assoc (t .within) (named units m) (allNamed units ms))
 
 -- what is collected is the tally of the members read
-pub collect-tallied : (units from n : ℕ) (flat s : List ℕ) → collect units from n (record { count = 0; within = true; flat = flat }) s ≡ mapped (tallied units from flat) (membersAs held n s)
+pub collect-tallied : (units from n : ℕ) (flat s : List ℕ)
+    → collect units from n (record { count = 0; within = true; flat = flat }) s ≡ mapped (tallied units from flat) (membersAs held n s)
 unfolding tallied
 collect-tallied units from n flat s =
     collect-all units from n _ s
@@ -83,7 +90,8 @@ collect-none units from zero t s h = refl
 collect-none units from (suc n) t s h = rw h
 
 -- where one stands, it is noted
-pub collect-next : (units from n : ℕ) (t : Tally) (s : List ℕ) (m : ℕ) (r : List ℕ) → length s ≤ n → numberAs held space s ≡ parsed m r → (k : ℕ) × (length r ≤ k) × (length r < length s) × (collect units from n t s ≡ collect units from k (noted units from t m) r)
+pub collect-next : (units from n : ℕ) (t : Tally) (s : List ℕ) (m : ℕ) (r : List ℕ) → length s ≤ n → numberAs held space s ≡ parsed m r
+    → (k : ℕ) × (length r ≤ k) × (length r < length s) × (collect units from n t s ≡ collect units from k (noted units from t m) r)
 unfolding collect numberAs andThen
 collect-next units from zero t s m r l h = let d = number-after-shorter space s m r h in absurd (omega arith)
 collect-next units from (suc n) t s m r l h =
@@ -91,13 +99,15 @@ collect-next units from (suc n) t s m r l h =
     (n, omega arith, d, rw h (collect-first units from n (noted units from t m) r (parsed t s)))
 
 -- a line with no member is none
-pub grouped-none : (units from : ℕ) (flat : List ℕ) (h : Head) (ms s : List ℕ) (t : Tally) → tallied units from flat ms ≡ t → t .count ≡ 0 → grouped h ms s ≡ failed
+pub grouped-none : (units from : ℕ) (flat : List ℕ) (h : Head) (ms s : List ℕ) (t : Tally) → tallied units from flat ms ≡ t → t .count ≡ 0
+    → grouped h ms s ≡ failed
 unfolding grouped tallied
 grouped-none units from flat h [] s t e z = refl
 grouped-none units from flat h (m ∷ ms) s t e z = absurd (omega (arith, ap (λ (t : Tally). t .count) e))
 
 -- a line with members is a group line
-pub grouped-some : (units from : ℕ) (flat : List ℕ) (h : Head) (ms s : List ℕ) (t : Tally) → tallied units from flat ms ≡ t → (t .count ≡ 0 → ⊥) → mapped (groupTally units from flat) (grouped h ms s) ≡ parsed (record { head = h; tally = t }) s
+pub grouped-some : (units from : ℕ) (flat : List ℕ) (h : Head) (ms s : List ℕ) (t : Tally) → tallied units from flat ms ≡ t → (t .count ≡ 0 → ⊥)
+    → mapped (groupTally units from flat) (grouped h ms s) ≡ parsed (record { head = h; tally = t }) s
 unfolding grouped mapped tallied
 grouped-some units from flat h [] s t e n = absurd (n (sym (ap (λ (t : Tally). t .count) e)))
 grouped-some units from flat h (m ∷ ms) s t e n = rw (← e)
@@ -117,7 +127,10 @@ pub record GroupFacts (units from : ℕ) (flat flat′ s r : List ℕ) (head : H
   pub stored : flat′ ≡ sets flat from (map memberOf (numbersOf line))
 
 -- they are known from the answer
-pub group-facts : (units from : ℕ) (flat flat′ s r : List ℕ) (head : Head) (count : ℕ) (within : Bool) → mapped (groupTally units from flat) (groupAs held s) ≡ parsed (record { head = head; tally = record { count = count; within = within; flat = flat′ } }) r → GroupFacts units from flat flat′ s r head count within
+pub group-facts : (units from : ℕ) (flat flat′ s r : List ℕ) (head : Head) (count : ℕ) (within : Bool)
+    → mapped (groupTally units from flat) (groupAs held s)
+    ≡ parsed (record { head = head; tally = record { count = count; within = within; flat = flat′ } }) r
+    → GroupFacts units from flat flat′ s r head count within
 unfolding tallied
 group-facts units from flat flat′ s r head count within h =
     let m = mapped-parsed (groupTally units from flat) (groupAs held s) h in

@@ -14,7 +14,8 @@ use Rattle.model.specs.declared.Limit.{Limit}
 use Rattle.model.specs.declared.Limit.the-variants.{Any, AtMost}
 use Rattle.text.specs.Numbers.{printNumber}
 use Rattle.text.specs.Laws.Printed.{print-one, print-more}
-use Rattle.job.specs.Form.{Line, unit, group, unitOpening, groupOpening, deviationOpening, spreadOpening, membersOpening, space, anyWord, printLimit, printMembers, printLine}
+use Rattle.job.specs.Form.{Line, unit, group, unitOpening, groupOpening, deviationOpening, spreadOpening, membersOpening, space, anyWord}
+use Rattle.job.specs.Form.{printLimit, printMembers, printLine}
 use Rattle.job.specs.Job.{holds}
 use Rattle.job.specs.TextLines.{ahead, linesOf}
 

@@ -61,7 +61,13 @@ unit-good units groups l h =
     let c = unless-zero (eqb groups 0) 4 _ (b .1) in
     let d = unless-zero (ltb units mostUnits) 5 _ (c .1) in
     let e = unless-zero (leb (l .low) (l .high)) 6 _ (d .1) in
-    record { low-fits = leb-true _ _ (a .0); high-fits = leb-true _ _ (b .0); no-group = eqb-true _ _ (c .0); room = ltb-true _ _ (d .0); ordered = leb-true _ _ (e .0) }
+    record {
+      low-fits = leb-true _ _ (a .0);
+      high-fits = leb-true _ _ (b .0);
+      no-group = eqb-true _ _ (c .0);
+      room = ltb-true _ _ (d .0);
+      ordered = leb-true _ _ (e .0);
+    }
 
 -- a group line's head without a refusal
 pub record HeadGood (groups taken total : ℕ) (limits : Limits) (count : ℕ) : Type 0 where
@@ -72,7 +78,8 @@ pub record HeadGood (groups taken total : ℕ) (limits : Limits) (count : ℕ) :
   pub fits : taken + count ≤ mostMemberships
 
 -- so says the verdict 0 of a head
-pub head-good : (groups taken total : ℕ) (limits : Limits) (count : ℕ) → headVerdict groups taken total limits count ≡ 0 → HeadGood groups taken total limits count
+pub head-good : (groups taken total : ℕ) (limits : Limits) (count : ℕ) → headVerdict groups taken total limits count ≡ 0
+    → HeadGood groups taken total limits count
 unfolding headVerdict
 head-good groups taken total limits count h =
     let a = unless-zero (leb total greatestTotal) 3 _ h in

@@ -6,10 +6,12 @@ use Rattle.model.specs.declared.Limit.the-variants.{Any, AtMost}
 use Rattle.text.specs.Parsed.{andThen, mapped, orElse, word}
 use Rattle.text.specs.Words.{bytes}
 use Rattle.text.specs.Numbers.{number, numberAfter, digits, digitsOf, printNumber}
-use Rattle.job.specs.Form.{Line, unit, group, printLimit, printMembers, printLine, numberAs, limitAs, unitAs, membersAs, headAs, grouped, groupAs, lineAs, line}
+use Rattle.job.specs.Form.{Line, unit, group, printLimit, printMembers, printLine, numberAs, limitAs, unitAs, membersAs, headAs, grouped}
+use Rattle.job.specs.Form.{groupAs, lineAs, line}
 use Rattle.groups.specs.Memberships.{memberships}
 use Rattle.groups.specs.Inner.Flat.{flatten}
-use Rattle.job.specs.Job.{Job, allNamed, holds, distinct, unitVerdict, headVerdict, membersVerdict, verdict, add, stepOn, accepted, onward, readLines, someUnit, readJob}
+use Rattle.job.specs.Job.{Job, allNamed, holds, distinct, unitVerdict, headVerdict, membersVerdict, verdict, add, stepOn, accepted, onward}
+use Rattle.job.specs.Job.{readLines, someUnit, readJob}
 use Rattle.job.specs.Orders.{OfGroup, Reordered}
 use Rattle.job.specs.TextLines.{ahead, linesOf}
 
@@ -41,7 +43,10 @@ workedJob =
 
 -- it reads so
 pub worked-reads : readJob (printLines workedLines) ≡ accepted workedJob
-unfolding workedLines printLines workedJob printLine printLimit printMembers printNumber digitsOf readJob readLines onward someUnit stepOn verdict unitVerdict headVerdict membersVerdict allNamed holds distinct memberships add line lineAs unitAs groupAs headAs limitAs numberAs membersAs grouped numberAfter number digits andThen mapped orElse word
+unfolding workedLines printLines workedJob printLine printLimit printMembers printNumber digitsOf readJob
+    readLines onward someUnit stepOn verdict unitVerdict headVerdict membersVerdict allNamed holds distinct memberships add
+    line lineAs unitAs groupAs headAs limitAs numberAs membersAs
+    grouped numberAfter number digits andThen mapped orElse word
 worked-reads = refl
 
 -- and its groups are these numbers

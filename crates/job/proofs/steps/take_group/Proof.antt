@@ -44,7 +44,7 @@ refuse-requires : tie.Need-refuse-requires
 refuse-requires c κs = search needs
 
 same-length : tie.Need-same-length
-same-length c = search needs
+same-length c = c .before .before .before .before .before .group-line .kept .1 .1 .0
 
 returns : tie.Need-returns
 unfolding mapped
@@ -85,7 +85,7 @@ refuse-requires-2 : tie.Need-refuse-requires-2
 refuse-requires-2 c κs = search needs
 
 same-length-2 : tie.Need-same-length-2
-same-length-2 c = search needs
+same-length-2 c = c .before .before .before .before .before .before .before .before .before .group-line .kept .1 .1 .0
 
 returns-2 : tie.Need-returns-2
 unfolding mapped
@@ -124,7 +124,7 @@ add-t28 c =
     omega (arith, good e .fits, seen (e .before .before .before .before) .counted)
 
 same-length-3 : tie.Need-same-length-3
-same-length-3 c = search needs
+same-length-3 c = c .before .before .before .put-group .kept .0 ∙ c .before .before .before .before .before .before .before .before .before .before .before .before .before .before .group-line .kept .1 .1 .0
 
 returns-3 : tie.Need-returns-3
 unfolding mapped

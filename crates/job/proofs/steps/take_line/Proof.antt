@@ -19,7 +19,7 @@ take-group-requires : tie.Need-take-group-requires
 take-group-requires c κs = search needs
 
 same-length : tie.Need-same-length
-same-length c = search needs
+same-length c = c .before .before .take-group .kept .1 .1 .1 .0
 
 returns : tie.Need-returns
 returns c = λ job lows₀ highs₀ flat₀ holds.
@@ -34,10 +34,10 @@ take-unit-requires : tie.Need-take-unit-requires
 take-unit-requires c κs = search needs
 
 same-length-2 : tie.Need-same-length-2
-same-length-2 c = search needs
+same-length-2 c = c .before .before .before .before .take-unit .kept .1 .1 .1 .1 .0
 
 same-length-3 : tie.Need-same-length-3
-same-length-3 c = search needs
+same-length-3 c = c .before .before .before .before .take-unit .kept .1 .1 .1 .1 .1 .0
 
 returns-2 : tie.Need-returns-2
 returns-2 c = λ job lows₀ highs₀ flat₀ holds.
