@@ -16,7 +16,8 @@ use Rattle.group.specs.declared.Levelling.{Levelling}
 use Rattle.group.specs.declared.Levelling.the-variants as level
 use Rattle.group.specs.declared.Narrowing.{Narrowing}
 use Rattle.group.specs.declared.Narrowing.the-variants as narrow
-use Rattle.group.specs.Findings.{Finding, refusal}
+use Rattle.group.specs.Findings.{Finding}
+use Rattle.model.specs.Refusals.{refusal}
 
 -- what the checks of levelling find: the total is in its range, and the plan list has room
 abbrev pub LevelChecks : List ℕ → List ℕ → ℕ → ℕ → Check → Type 0

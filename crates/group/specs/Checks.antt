@@ -4,10 +4,9 @@ use mathlib.Core.Bool.{Bool, true, false, not, _&&_}
 use mathlib.Core.List.{List, [], _∷_}
 use lib.Dec.{leb, ltb, eqb}
 use lib.ListN.{length}
-use Rattle.model.specs.Shares.{pick, greatestShare, greatestTotal}
+use Rattle.model.specs.Shares.{pick, greatestShare, greatestTotal, mostUnits}
 use Rattle.model.specs.Figures.{greatestDeviation, greatestSpread, limitWithin}
 use Rattle.model.specs.declared.Limits.{Limits}
-use Rattle.group.specs.Sound.{greatestCount}
 use Rattle.group.specs.declared.Check.{Check}
 use Rattle.group.specs.declared.Check.the-variants.{Passed, Failed}
 
@@ -31,7 +30,7 @@ firstCrossed lows highs = firstFailing leb 1 lows highs
 
 -- 01, 1: lows and highs not empty, of one length, and not over 256, with room for as many numbers
 abbrev pub sized : ℕ → ℕ → ℕ → Bool
-sized count other room = leb 1 count && (eqb count other && (leb count greatestCount && leb count room))
+sized count other room = leb 1 count && (eqb count other && (leb count mostUnits && leb count room))
 
 -- 01, 4 for total and limits: each is in its range
 abbrev pub amountsWithin : ℕ → Limits → Bool

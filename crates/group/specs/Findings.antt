@@ -6,23 +6,19 @@ use mathlib.Core.Logic.{_⊎_}
 use mathlib.Core.Path.{_≡_}
 use lib.Dec.{leb}
 use lib.ListN.{length}
-use Rattle.model.specs.Shares.{Ranges}
+use Rattle.model.specs.Shares.{Ranges, mostUnits}
+use Rattle.model.specs.Refusals.{refusal}
 use Rattle.model.specs.declared.Refusal.{Refusal}
 use Rattle.group.specs.Checks.{areShares}
-use Rattle.group.specs.Sound.{greatestCount}
 use Rattle.group.specs.declared.Check.{Check}
 use Rattle.group.specs.declared.Check.the-variants.{Passed, Failed}
 use Rattle.group.specs.First.{EachUnit, FirstUnit}
-
--- a refusal by its number and place
-abbrev pub refusal : ℕ → ℕ → Refusal
-refusal number place = record { number = number; place = place }
 
 -- lists of a group's lengths: not empty, of one length, and not over 256, with room for as many numbers
 pub record Sized (count other room : ℕ) : Type 0 where
   pub some : 1 ≤ count
   pub paired : count ≡ other
-  pub few : count ≤ greatestCount
+  pub few : count ≤ mostUnits
   pub fits : count ≤ room
 
 -- so long are the lows and the highs

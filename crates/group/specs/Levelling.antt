@@ -20,13 +20,13 @@ levelledTo lows highs total =
     (Levelled (record { copies = level lows highs total }) (figuresOf (length lows) total (levelled lows highs total)))
     (Refused (record { number = 11; place = 0 }))
 
-abbrev pub afterCheck : Check → Levelling → Levelling
-afterCheck (Failed refusal) next = Refused refusal
-afterCheck Passed next = next
+abbrev pub levelledAfter : Check → Levelling → Levelling
+levelledAfter (Failed refusal) next = Refused refusal
+levelledAfter Passed next = next
 
 -- 01: levelling one group from lists, with room for so many shares
 unfoldable pub levelling : List ℕ → List ℕ → ℕ → ℕ → Levelling
-levelling lows highs total room = afterCheck (checkLists lows highs room (leb total greatestTotal)) (levelledTo lows highs total)
+levelling lows highs total room = levelledAfter (checkLists lows highs room (leb total greatestTotal)) (levelledTo lows highs total)
 
 -- 01: the shares are written to the plan list; numbers past the members, and on a refusal all of them, keep their values
 abbrev pub planAfter : Levelling → List ℕ → List ℕ → List ℕ

@@ -13,15 +13,15 @@ use Rattle.group.specs.declared.Narrowing.{Narrowing}
 use Rattle.group.specs.declared.Narrowing.the-variants.{Refused}
 
 -- a turn's answer as that of a call on lists: a refusal has place 0
-abbrev pub afterCheck : Check → Turn → Narrowing
-afterCheck (Failed refusal) turn = Refused refusal
-afterCheck Passed Turn.Narrowed = Narrowing.Narrowed
-afterCheck Passed (NoPlan number) = Refused (record { number = number; place = 0 })
+abbrev pub narrowedAfter : Check → Turn → Narrowing
+narrowedAfter (Failed refusal) turn = Refused refusal
+narrowedAfter Passed Turn.Narrowed = Narrowing.Narrowed
+narrowedAfter Passed (NoPlan number) = Refused (record { number = number; place = 0 })
 
 -- 01: narrowing one group from lists
 unfoldable pub narrowing : List ℕ → List ℕ → ℕ → Limits → Narrowing
 narrowing lows highs total limits =
-    afterCheck (checkLists lows highs (length lows) (amountsWithin total limits)) (turnOf lows highs total limits)
+    narrowedAfter (checkLists lows highs (length lows) (amountsWithin total limits)) (turnOf lows highs total limits)
 
 -- 01: on success the lists hold the narrowed ranges, on a refusal they are as they were
 abbrev pub listAfter : Narrowing → List ℕ → List ℕ → List ℕ

@@ -8,7 +8,7 @@ use Rattle.model.specs.Shares.{greatestShare, Ranges, Within, sum}
 use Rattle.model.specs.Figures.{deviation, spread, above, figuresOf}
 use Rattle.model.specs.Levels.{totalAt, levelled}
 use Rattle.model.specs.Plans.{narrowedLows, narrowedHighs}
-use Rattle.model.specs.Narrowing.{Inside, Taken}
+use Rattle.model.specs.Narrowing.{RangesInside, Taken}
 use Rattle.model.specs.declared.Figures.{Figures}
 use Rattle.model.specs.declared.Limits.{Limits}
 use Rattle.group.specs.Levelling.{levelling, planAfter}
@@ -46,7 +46,7 @@ module _ (lows highs : List ℕ) (total : ℕ) (plan : List ℕ) where
 -- 01, demand 2: ranges inside those at the call, and a value lies in a member's range exactly if some plan within those at the call takes it
 pub record NarrowPromise (lows highs : List ℕ) (total : ℕ) (limits : Limits) (lowsAfter highsAfter : List ℕ) : Type 0 where
   pub ranges : Ranges lowsAfter highsAfter
-  pub inside : Inside lowsAfter highsAfter lows highs
+  pub inside : RangesInside lowsAfter highsAfter lows highs
   pub exactly : (i : ℕ) → i < length lows → (v : ℕ)
       → ((getD lowsAfter i 0 ≤ v) × (v ≤ getD highsAfter i 0)) ↔ Taken lows highs total limits i v
 

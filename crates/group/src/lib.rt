@@ -20,7 +20,7 @@ ghost use Prim.Native.Nat.{_≤_};
 ghost use lib.ListN.{length};
 ghost use Rattle.model.specs.Levels.{levelled};
 ghost use Rattle.model.specs.Plans.{narrowedLows, narrowedHighs};
-ghost use Rattle.group.specs.Sound.{Sound};
+ghost use Rattle.group.specs.Sound.{SoundRanges};
 ghost use Rattle.group.specs.Levelling.{levelledTo, levelling, planAfter};
 ghost use Rattle.group.specs.Narrowing.{narrowing, listAfter};
 
@@ -53,7 +53,7 @@ pub enum Narrowing {
 
 // Levels sound lists: the levelled shares go to the plan, over its first numbers.
 pub fn level_core(lows: &[u64], highs: &[u64], total: u64, plan: &mut [u64]) -> Levelling
-    requires { ⌜ Sound (now lows) (now highs) ⌝ }
+    requires { ⌜ SoundRanges (now lows) (now highs) ⌝ }
     requires { ⌜ length (now lows) ≤ length (now plan) ⌝ }
     ensures { λ r. ⌜ r ≡ levelledTo (now (lows .entry)) (now (highs .entry)) total ⌝ }
     ensures { λ r. ⌜ now (plan .exit) ≡ planAfter r (levelled (now (lows .entry)) (now (highs .entry)) total) (now (plan .entry)) ⌝ }

@@ -12,11 +12,11 @@ ghost use Rattle.model.specs.Shares.{sum};
 ghost use Rattle.model.specs.Figures.{figuresOf};
 ghost use Rattle.model.specs.Levels.{topped};
 ghost use Rattle.model.specs.Plans.{hasShares};
-ghost use Rattle.group.specs.Sound.{Sound};
+ghost use Rattle.group.specs.Sound.{SoundRanges};
 
 // Both figures of the shares at a level, with the copies left over handed out.
 pub fn figures_at(lows: &[u64], highs: &[u64], v: u64, left: u64, total: u64) -> Figures
-    requires { ⌜ Sound (now lows) (now highs) ⌝ }
+    requires { ⌜ SoundRanges (now lows) (now highs) ⌝ }
     requires { ⌜ sum (topped (now lows) (now highs) v left) ≡ total ⌝ }
     ensures { λ r. ⌜ r ≡ figuresOf (length (now (lows .entry))) total (topped (now (lows .entry)) (now (highs .entry)) v left) ⌝ }
 {
@@ -41,7 +41,7 @@ pub fn figures_at(lows: &[u64], highs: &[u64], v: u64, left: u64, total: u64) ->
 
 // Whether shares with the total exist.
 pub fn has_shares(lows: &[u64], highs: &[u64], total: u64) -> bool
-    requires { ⌜ Sound (now lows) (now highs) ⌝ }
+    requires { ⌜ SoundRanges (now lows) (now highs) ⌝ }
     ensures { λ r. ⌜ r ≡ hasShares (now (lows .entry)) (now (highs .entry)) total ⌝ }
 {
     if total < sum_of(lows) {

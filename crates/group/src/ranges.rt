@@ -14,9 +14,9 @@ ghost use mathlib.Core.Path.{_≡_};
 ghost use Prim.Native.Nat.{_≤_};
 ghost use lib.ListN.{length};
 ghost use Rattle.model.specs.Plans.{turnOf, narrowedLows, narrowedHighs};
-ghost use Rattle.group.specs.Sound.{Sound, HasShares};
+ghost use Rattle.group.specs.Sound.{SoundRanges, HasShares};
 ghost use Rattle.group.specs.Inner.Narrowing.{afterTurn, Turned};
-ghost use Rattle.group.specs.Inner.Tabled.{Tabled, Room, Space};
+ghost use Rattle.group.specs.Inner.Tabled.{Tabled, TableLists, TableRoom};
 
 // Writes the narrowed ranges of a group that has shares over starts and stops, or says that it has no plan.
 fn narrow_on(
@@ -67,8 +67,8 @@ fn narrow_with(
     stops: &mut [u64],
     table: &mut [u64],
 ) -> Turn
-    requires { ⌜ Sound (now lows) (now highs) ⌝ }
-    requires { ⌜ Room (length (now lows)) (now starts) (now stops) (now table) ⌝ }
+    requires { ⌜ SoundRanges (now lows) (now highs) ⌝ }
+    requires { ⌜ TableLists (length (now lows)) (now starts) (now stops) (now table) ⌝ }
     ensures { λ r. ⌜ Turned (now (lows .entry)) (now (highs .entry)) (question .total) (question .limits) r (now (lows .exit)) (now (highs .exit)) ⌝ }
 {
     let total = question.total;
@@ -94,8 +94,8 @@ fn narrow_within(
     stops: &mut [u64],
     table: &mut [u64],
 ) -> Turn
-    requires { ⌜ Sound (now lows) (now highs) ⌝ }
-    requires { ⌜ Space (length (now lows)) (now starts) (now stops) (now table) ⌝ }
+    requires { ⌜ SoundRanges (now lows) (now highs) ⌝ }
+    requires { ⌜ TableRoom (length (now lows)) (now starts) (now stops) (now table) ⌝ }
     ensures { λ r. ⌜ Turned (now (lows .entry)) (now (highs .entry)) (question .total) (question .limits) r (now (lows .exit)) (now (highs .exit)) ⌝ }
 {
     let count = lows.len();
@@ -111,7 +111,7 @@ fn narrow_within(
 
 // The same for a group of at most 16 members, with small arrays: clearing large ones would be much of its time.
 fn narrow_few(lows: &mut [u64], highs: &mut [u64], question: Question) -> Turn
-    requires { ⌜ Sound (now lows) (now highs) ⌝ }
+    requires { ⌜ SoundRanges (now lows) (now highs) ⌝ }
     requires { ⌜ length (now lows) ≤ 16 ⌝ }
     ensures { λ r. ⌜ Turned (now (lows .entry)) (now (highs .entry)) (question .total) (question .limits) r (now (lows .exit)) (now (highs .exit)) ⌝ }
 {
@@ -123,7 +123,7 @@ fn narrow_few(lows: &mut [u64], highs: &mut [u64], question: Question) -> Turn
 
 // Narrows sound lists in place, or says that there is no plan and leaves them as they were.
 pub fn narrow_core(lows: &mut [u64], highs: &mut [u64], question: Question) -> Turn
-    requires { ⌜ Sound (now lows) (now highs) ⌝ }
+    requires { ⌜ SoundRanges (now lows) (now highs) ⌝ }
     ensures { λ r. ⌜ Turned (now (lows .entry)) (now (highs .entry)) (question .total) (question .limits) r (now (lows .exit)) (now (highs .exit)) ⌝ }
 {
     if lows.len() <= 16 {

@@ -8,7 +8,7 @@ ghost use mathlib.Core.List.{_++_};
 ghost use lib.ListN.{length, drop};
 ghost use Rattle.model.specs.Shares.{sum, greatestTotal};
 ghost use Rattle.model.specs.Levels.{growth, totalAt, level, remainder, topped};
-ghost use Rattle.group.specs.Sound.{Sound, HasShares};
+ghost use Rattle.group.specs.Sound.{SoundRanges, HasShares};
 
 // The smaller of two numbers.
 pub(crate) fn smaller(a: u64, b: u64) -> u64
@@ -43,7 +43,7 @@ pub fn sum_of(xs: &[u64]) -> u64
 
 // T(v), the sum of the shares at a level.
 pub fn total_at(lows: &[u64], highs: &[u64], v: u64) -> u64
-    requires { ⌜ Sound (now lows) (now highs) ⌝ }
+    requires { ⌜ SoundRanges (now lows) (now highs) ⌝ }
     ensures { λ r. ⌜ r ≡ totalAt (now (lows .entry)) (now (highs .entry)) v ⌝ }
 {
     let mut total: u64 = 0;
@@ -84,7 +84,7 @@ pub fn remainder_at(lows: &[u64], highs: &[u64], total: u64, v: u64) -> u64
 
 // Writes the shares at a level, with the copies left over handed out, over the first numbers of a plan.
 pub fn fill_plan(lows: &[u64], highs: &[u64], v: u64, left: u64, plan: &mut [u64])
-    requires { ⌜ Sound (now lows) (now highs) ⌝ }
+    requires { ⌜ SoundRanges (now lows) (now highs) ⌝ }
     requires { ⌜ length (now lows) ≤ length (now plan) ⌝ }
     ensures { λ _. ⌜ now (plan .exit) ≡ topped (now (lows .entry)) (now (highs .entry)) v left ++ drop (length (now (lows .entry))) (now (plan .entry)) ⌝ }
 {

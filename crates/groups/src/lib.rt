@@ -5,7 +5,7 @@ ghost use Prim.Native.Nat.{_+_, _≤_};
 ghost use mathlib.Core.Path.{_≡_};
 ghost use lib.ListN.{length};
 ghost use lib.Seq.{sets};
-ghost use Rattle.groups.specs.Inner.Flat.{mostFlat, Coded, limitCode, limitOf, headOf, storedAt, Whole};
+ghost use Rattle.groups.specs.Inner.Flat.{mostFlat, Coded, limitCode, limitOf, headOf, storedAt, WholeAt};
 
 // The numbers in front of a group's members: total, deviation limit, spread limit, number of members.
 pub const HEAD: usize = 4;
@@ -67,7 +67,7 @@ pub fn put_group(flat: &mut [u64], at: usize, total: u64, limits: Limits, count:
 
 // The group at an index.
 pub fn group_at(flat: &[u64], at: usize) -> Stored
-    requires { ⌜ Whole (now flat) at ⌝ }
+    requires { ⌜ WholeAt (now flat) at ⌝ }
     ensures { λ r. ⌜ r ≡ storedAt (now (flat .entry)) at ⌝ }
 {
     let limits = Limits {

@@ -1,4 +1,5 @@
 -- What only inner contracts use, a file for each topic.
+pub mod Below
 pub mod Distinct
 pub mod LinesRead
 pub mod Placed

@@ -5,7 +5,8 @@ use mathlib.Core.List.{List, [], _∷_, _++_, map}
 use lib.Dec.{leb, ltb, eqb}
 use lib.ListN.{length}
 use Rattle.groups.specs.Memberships.{memberships}
-use Rattle.model.specs.Shares.{pick, greatestShare, greatestTotal}
+use Rattle.model.specs.Shares.{pick, greatestShare, greatestTotal, mostUnits}
+use Rattle.model.specs.Refusals.{refusal}
 use Rattle.model.specs.Figures.{greatestDeviation, greatestSpread, limitWithin}
 use Rattle.model.specs.Groups.{Group}
 use Rattle.model.specs.declared.Limits.{Limits}
@@ -18,10 +19,6 @@ pub record Job : Type 0 where
   pub lows : List ℕ
   pub highs : List ℕ
   pub groups : List Group
-
--- 01: "1 to 256 units"
-abbrev pub mostUnits : ℕ
-mostUnits = 256
 
 -- 01: "0 to 64 groups"
 abbrev pub mostGroups : ℕ
@@ -45,14 +42,14 @@ allNamed units [] = true
 allNamed units (m ∷ ms) = named units m && allNamed units ms
 
 -- a number is in a list
-unfoldable pub holds : ℕ → List ℕ → Bool
-holds x [] = false
-holds x (y ∷ ys) = eqb x y || holds x ys
+unfoldable pub contains : ℕ → List ℕ → Bool
+contains x [] = false
+contains x (y ∷ ys) = eqb x y || contains x ys
 
 -- no number is twice in a list
 unfoldable pub distinct : List ℕ → Bool
 distinct [] = true
-distinct (x ∷ xs) = not (holds x xs) && distinct xs
+distinct (x ∷ xs) = not (contains x xs) && distinct xs
 
 -- the number of a refusal unless the test holds, and what comes after it
 abbrev pub unless : Bool → ℕ → ℕ → ℕ
@@ -81,16 +78,16 @@ unfoldable pub membersVerdict : ℕ → List ℕ → ℕ
 membersVerdict units ms = unless (allNamed units ms) 8 (unless (distinct ms) 9 0)
 
 -- the first of two refusals
-abbrev pub first : ℕ → ℕ → ℕ
-first zero b = b
-first (suc a) b = suc a
+abbrev pub firstRefusal : ℕ → ℕ → ℕ
+firstRefusal zero b = b
+firstRefusal (suc a) b = suc a
 
 -- 01: the lowest of 4 to 9 that applies to a line in the form, 0 where none does
 unfoldable pub verdict : Job → Line → ℕ
 verdict job (unit l) = unitVerdict (length (job .lows)) (length (job .groups)) l
 verdict job (group g) =
     let ms : List ℕ = g .first ∷ g .others in
-    first (headVerdict (length (job .groups)) (memberships (job .groups)) (g .total) (g .limits) (length ms)) (membersVerdict (length (job .lows)) ms)
+    firstRefusal (headVerdict (length (job .groups)) (memberships (job .groups)) (g .total) (g .limits) (length ms)) (membersVerdict (length (job .lows)) ms)
 
 -- a member is the unit's number less 1
 abbrev pub memberOf : ℕ → ℕ
@@ -106,40 +103,36 @@ add job (unit l) = record { lows = job .lows ++ l .low ∷ []; highs = job .high
 add job (group g) = record { lows = job .lows; highs = job .highs; groups = job .groups ++ groupOf g ∷ [] }
 
 -- what one line does: the job with it and the rest of the text, or a refusal
-pub data Stepped : Type 0 where
-  next : Job → List ℕ → Stepped
-  stop : Refusal → Stepped
-
--- 01: a refusal is number and place
-abbrev pub refusal : ℕ → ℕ → Refusal
-refusal number place = record { number = number; place = place }
+pub data LineStep : Type 0 where
+  next : Job → List ℕ → LineStep
+  stop : Refusal → LineStep
 
 -- the number of the line after a job's lines
 abbrev pub placeOf : Job → ℕ
 placeOf job = length (job .lows) + length (job .groups) + 1
 
 -- a line without a refusal is added; one with it stops the reading there
-abbrev pub judged : ℕ → Job → List ℕ → ℕ → Stepped
+abbrev pub judged : ℕ → Job → List ℕ → ℕ → LineStep
 judged zero job s place = next job s
 judged (suc number) job s place = stop (refusal (suc number) place)
 
 -- 01: 3 for a line not in the form
-unfoldable pub stepOn : Job → Parsed Line → Stepped
+unfoldable pub stepOn : Job → Parsed Line → LineStep
 stepOn job (parsed l s) = judged (verdict job l) (add job l) s (placeOf job)
 stepOn job failed = stop (refusal 3 (placeOf job))
 
 -- what reading a text gives
-pub data Outcome : Type 0 where
-  accepted : Job → Outcome
-  refused : Refusal → Outcome
+pub data JobOrRefusal : Type 0 where
+  accepted : Job → JobOrRefusal
+  refused : Refusal → JobOrRefusal
 
 -- goes on with the job and the rest, or stops
-unfoldable pub onward : (Job → List ℕ → Outcome) → Stepped → Outcome
+unfoldable pub onward : (Job → List ℕ → JobOrRefusal) → LineStep → JobOrRefusal
 onward k (next job s) = k job s
 onward k (stop r) = refused r
 
 -- the lines of a text, at most n, after a job's lines
-unfoldable pub readLines : ℕ → Job → List ℕ → Outcome
+unfoldable pub readLines : ℕ → Job → List ℕ → JobOrRefusal
 readLines zero job s = accepted job
 readLines (suc n) job [] = accepted job
 readLines (suc n) job (b ∷ s) = onward (λ job s. readLines n job s) (stepOn job (line (b ∷ s)))
@@ -149,11 +142,11 @@ abbrev pub noLines : Job
 noLines = record { lows = []; highs = []; groups = [] }
 
 -- 01: 10 "no unit line"
-unfoldable pub someUnit : Outcome → Outcome
+unfoldable pub someUnit : JobOrRefusal → JobOrRefusal
 someUnit (accepted job) = pick (eqb (length (job .lows)) 0) (refused (refusal 10 0)) (accepted job)
 someUnit (refused r) = refused r
 
 -- 01: 2 first, "then the first bad line with the lowest of 3 to 9, then 10"
-unfoldable pub readJob : List ℕ → Outcome
+unfoldable pub readJob : List ℕ → JobOrRefusal
 readJob text =
     pick (leb (length text) mostBytes) (someUnit (readLines (length text) noLines text)) (refused (refusal 2 0))

@@ -1,6 +1,5 @@
 pub mod Form
 pub mod Job
-pub mod Below
 pub mod Reading
 pub mod Sound
 pub mod TextLines

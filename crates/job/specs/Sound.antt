@@ -5,10 +5,10 @@ use mathlib.Core.List.{List, [], _∷_}
 use mathlib.Core.Path.{_≡_}
 use lib.ListN.{length}
 use Rattle.model.specs.Figures.{greatestDeviation, greatestSpread, limitWithin}
-use Rattle.model.specs.Shares.{Ranges, greatestTotal}
+use Rattle.model.specs.Shares.{Ranges, greatestTotal, mostUnits}
 use Rattle.model.specs.Groups.{Group}
 use Rattle.groups.specs.Memberships.{memberships, SoundGroup}
-use Rattle.job.specs.Job.{Job, mostUnits, mostGroups, mostMemberships}
+use Rattle.job.specs.Job.{Job, mostGroups, mostMemberships}
 
 -- 01: a sound group, with a total and limits in range
 pub record AcceptedGroup (units : ℕ) (g : Group) : Type 0 where
@@ -31,6 +31,6 @@ pub record Built (job : Job) : Type 0 where
   pub groups-sound : AcceptedGroups (length (job .lows)) (job .groups)
 
 -- 01: "A job has 1 to 256 units, 0 to 64 groups and at most 4,096 memberships"
-pub record Sound (job : Job) : Type 0 where
+pub record SoundJob (job : Job) : Type 0 where
   pub some-unit : 1 ≤ length (job .lows)
   pub built : Built job

@@ -4,9 +4,9 @@ ghost use Prim.Native.Nat.{_≤_};
 ghost use mathlib.Core.List.{_++_};
 ghost use lib.ListN.{length, take, drop};
 ghost use Rattle.groups.specs.Inner.Flat.{mostFlat};
-ghost use Rattle.job.specs.Job.{mostUnits};
+ghost use Rattle.model.specs.Shares.{mostUnits};
 ghost use Rattle.job.specs.Inner.Reading.{GroupsScanned, Scanned, FilledBy};
-ghost use Rattle.job.specs.Reading.{Filled};
+ghost use Rattle.job.specs.Reading.{ReadInto};
 use groups::MOST_FLAT;
 use model::Refusal;
 use model::lists::copy;
@@ -94,7 +94,7 @@ fn read_by(
     flat: &mut [u64],
 ) -> Reading
     requires { ⌜ (mostUnits ≤ length (now least)) × (mostUnits ≤ length (now greatest)) × (mostFlat ≤ length (now flat)) ⌝ }
-    ensures { λ r. ⌜ Filled (now (text .entry)) (now (lows .entry)) (now (highs .entry)) (now (lows .exit)) (now (highs .exit)) r ⌝ }
+    ensures { λ r. ⌜ ReadInto (now (text .entry)) (now (lows .entry)) (now (highs .entry)) (now (lows .exit)) (now (highs .exit)) r ⌝ }
 {
     let reading = scan(text, least, greatest, flat);
     let Reading::Read { units, groups } = reading else {
@@ -105,7 +105,7 @@ fn read_by(
 
 // Reads a job text: fills the table from its unit lines, and answers the counts of units and groups, or a refusal.
 pub fn read(text: &[u8], lows: &mut [u64], highs: &mut [u64]) -> Reading
-    ensures { λ r. ⌜ Filled (now (text .entry)) (now (lows .entry)) (now (highs .entry)) (now (lows .exit)) (now (highs .exit)) r ⌝ }
+    ensures { λ r. ⌜ ReadInto (now (text .entry)) (now (lows .entry)) (now (highs .entry)) (now (lows .exit)) (now (highs .exit)) r ⌝ }
 {
     let mut least = [0u64; 256];
     let mut greatest = [0u64; 256];

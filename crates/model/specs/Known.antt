@@ -40,24 +40,24 @@ refusedBy (NoPlan number) = number
 abbrev pub limitsOf : Limit → Limit → Limits
 limitsOf d s = record { deviation = d; spread = s }
 
-unfoldable pub holds : Known → Bool
-holds (shares g xs d s) =
+unfoldable pub isKnown : Known → Bool
+isKnown (shares g xs d s) =
     let found : List ℕ = levelled (g .lows) (g .highs) (g .total) in
     let n : ℕ = length (g .lows) in
     sameList found xs && (eqb (deviation n (g .total) found) d && eqb (spread n (g .total) found) s)
-holds (levels g v) = eqb (level (g .lows) (g .highs) (g .total)) v
-holds (ranges g d s lows highs) =
+isKnown (levels g v) = eqb (level (g .lows) (g .highs) (g .total)) v
+isKnown (ranges g d s lows highs) =
     sameList (narrowedLows (g .lows) (g .highs) (g .total) (limitsOf d s)) lows
     && sameList (narrowedHighs (g .lows) (g .highs) (g .total) (limitsOf d s)) highs
-holds (refuses g d s number) = eqb (refusedBy (turnOf (g .lows) (g .highs) (g .total) (limitsOf d s))) number
+isKnown (refuses g d s number) = eqb (refusedBy (turnOf (g .lows) (g .highs) (g .total) (limitsOf d s))) number
 
 unfoldable pub all : List Known → Bool
 all [] = true
-all (k ∷ ks) = holds k && all ks
+all (k ∷ ks) = isKnown k && all ks
 
 -- 001, example 1
-unfoldable pub first : Shared
-first = record { lows = 8 ∷ 4 ∷ 1 ∷ 3 ∷ []; highs = 10 ∷ 7 ∷ 5 ∷ 4 ∷ []; total = 20 }
+unfoldable pub four : Shared
+four = record { lows = 8 ∷ 4 ∷ 1 ∷ 3 ∷ []; highs = 10 ∷ 7 ∷ 5 ∷ 4 ∷ []; total = 20 }
 
 -- 001, example 5
 unfoldable pub ten : Shared
@@ -69,11 +69,11 @@ three total = record { lows = 1 ∷ 2 ∷ 3 ∷ []; highs = 3 ∷ 6 ∷ 9 ∷ []
 
 unfoldable pub known : List Known
 known =
-    shares first (8 ∷ 4 ∷ 4 ∷ 4 ∷ []) 24 48
-    ∷ ranges first (AtMost 28) Any (8 ∷ 4 ∷ 3 ∷ 3 ∷ []) (8 ∷ 5 ∷ 5 ∷ 4 ∷ [])
-    ∷ ranges first Any (AtMost 56) (8 ∷ 4 ∷ 3 ∷ 3 ∷ []) (8 ∷ 5 ∷ 5 ∷ 4 ∷ [])
-    ∷ ranges first Any (AtMost 55) (8 ∷ 4 ∷ 4 ∷ 4 ∷ []) (8 ∷ 4 ∷ 4 ∷ 4 ∷ [])
-    ∷ refuses first Any (AtMost 47) 12
+    shares four (8 ∷ 4 ∷ 4 ∷ 4 ∷ []) 24 48
+    ∷ ranges four (AtMost 28) Any (8 ∷ 4 ∷ 3 ∷ 3 ∷ []) (8 ∷ 5 ∷ 5 ∷ 4 ∷ [])
+    ∷ ranges four Any (AtMost 56) (8 ∷ 4 ∷ 3 ∷ 3 ∷ []) (8 ∷ 5 ∷ 5 ∷ 4 ∷ [])
+    ∷ ranges four Any (AtMost 55) (8 ∷ 4 ∷ 4 ∷ 4 ∷ []) (8 ∷ 4 ∷ 4 ∷ 4 ∷ [])
+    ∷ refuses four Any (AtMost 47) 12
     ∷ shares ten (1 ∷ 1 ∷ 1 ∷ 1 ∷ 1 ∷ 0 ∷ 0 ∷ 0 ∷ 0 ∷ 0 ∷ []) 50 25
     ∷ refuses ten (AtMost 30) Any 12
     ∷ refuses ten (AtMost 50) Any 0

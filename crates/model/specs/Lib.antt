@@ -1,3 +1,4 @@
+pub mod Refusals
 pub mod Shares
 pub mod Figures
 pub mod Levels

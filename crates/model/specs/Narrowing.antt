@@ -7,14 +7,14 @@ use Rattle.model.specs.Plans.{narrowedLow, narrowedHigh, Plan}
 use Rattle.model.specs.declared.Limits.{Limits}
 
 -- the ranges of the first two lists lie inside those of the last two
-pub record Inside (lows′ highs′ lows highs : List ℕ) : Type 0 where
+pub record RangesInside (lows′ highs′ lows highs : List ℕ) : Type 0 where
   pub sameLows : length lows′ ≡ length lows
   pub sameHighs : length highs′ ≡ length highs
   pub at : (i : ℕ) → i < length lows → (getD lows i 0 ≤ getD lows′ i 0) × (getD highs′ i 0 ≤ getD highs i 0)
 
 -- ranges between the opening ones and the narrowed ones
-pub record Between (lows highs : List ℕ) (total : ℕ) (limits : Limits) (lows′ highs′ : List ℕ) : Type 0 where
-  pub inside : Inside lows′ highs′ lows highs
+pub record PartlyNarrowed (lows highs : List ℕ) (total : ℕ) (limits : Limits) (lows′ highs′ : List ℕ) : Type 0 where
+  pub inside : RangesInside lows′ highs′ lows highs
   pub keeps : (i : ℕ) → i < length lows
       → (getD lows′ i 0 ≤ narrowedLow lows highs total limits i) × (narrowedHigh lows highs total limits i ≤ getD highs′ i 0)
 

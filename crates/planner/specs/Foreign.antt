@@ -41,11 +41,11 @@ foreignLevelled (Refused refusal) = record {
 }
 
 -- a limit as it comes across
-abbrev pub limitOf : ForeignLimit → Limit
-limitOf limit = pick (limit .any) Any (AtMost (limit .«at_most»))
+abbrev pub foreignLimit : ForeignLimit → Limit
+foreignLimit limit = pick (limit .any) Any (AtMost (limit .«at_most»))
 
-abbrev pub limitsOf : ForeignLimits → Limits
-limitsOf limits = record { deviation = limitOf (limits .deviation); spread = limitOf (limits .spread) }
+abbrev pub foreignLimits : ForeignLimits → Limits
+foreignLimits limits = record { deviation = foreignLimit (limits .deviation); spread = foreignLimit (limits .spread) }
 
 -- a narrowing
 abbrev pub foreignNarrowed : Narrowing → ForeignRefusal

@@ -6,13 +6,13 @@ use lib.ListN.{length}
 use Rattle.model.specs.declared.Figures.{Figures}
 use Rattle.model.specs.declared.Refusal.{Refusal}
 use Rattle.group.specs.Answers.{LevelFinding, NarrowFinding}
-use Rattle.group.specs.Findings.{refusal}
+use Rattle.model.specs.Refusals.{refusal}
 use Rattle.group.specs.Promises.{LevelPromise, NarrowPromise}
 use Rattle.group.specs.declared.Levelling.{Levelling}
 use Rattle.group.specs.declared.Levelling.the-variants as level
 use Rattle.group.specs.declared.Narrowing.{Narrowing}
 use Rattle.group.specs.declared.Narrowing.the-variants as narrow
-use Rattle.planner.specs.Foreign.{foreignLevelled, foreignNarrowed, limitsOf}
+use Rattle.planner.specs.Foreign.{foreignLevelled, foreignNarrowed, foreignLimits}
 use Rattle.planner.specs.declared.ForeignLevelled.{ForeignLevelled}
 use Rattle.planner.specs.declared.ForeignLimits.{ForeignLimits}
 use Rattle.planner.specs.declared.ForeignRefusal.{ForeignRefusal}
@@ -40,9 +40,9 @@ pub record ForeignLevelPromise (lows highs : List ℕ) (total : ℕ) (plan : Lis
 pub record ForeignNarrowPromise (lows highs : List ℕ) (total : ℕ) (limits : ForeignLimits) (answer : ForeignRefusal)
     (lowsAfter highsAfter : List ℕ) : Type 0 where
   -- number 0: demand 2
-  pub accepted : answer .number ≡ 0 → NarrowPromise lows highs total (limitsOf limits) lowsAfter highsAfter
+  pub accepted : answer .number ≡ 0 → NarrowPromise lows highs total (foreignLimits limits) lowsAfter highsAfter
   -- another number: 01's words for it hold, and the lists are as they were
   pub refused : 1 ≤ answer .number
-      → NarrowFinding lows highs total (limitsOf limits) (narrow.Refused (refusalOf answer)) × (lowsAfter ≡ lows) × (highsAfter ≡ highs)
+      → NarrowFinding lows highs total (foreignLimits limits) (narrow.Refused (refusalOf answer)) × (lowsAfter ≡ lows) × (highsAfter ≡ highs)
   -- it is given wherever they hold
-  pub given : {words : Narrowing} → NarrowFinding lows highs total (limitsOf limits) words → answer ≡ foreignNarrowed words
+  pub given : {words : Narrowing} → NarrowFinding lows highs total (foreignLimits limits) words → answer ≡ foreignNarrowed words

@@ -10,7 +10,7 @@ ghost use Rattle.model.specs.Levels.{levelled};
 ghost use Rattle.model.specs.Plans.{narrowedLows, narrowedHighs};
 ghost use Rattle.group.specs.Levelling.{levelling, planAfter};
 ghost use Rattle.group.specs.Narrowing.{narrowing, listAfter};
-ghost use Rattle.planner.specs.Foreign.{foreignRefusal, foreignLevelled, foreignNarrowed, limitOf, limitsOf};
+ghost use Rattle.planner.specs.Foreign.{foreignRefusal, foreignLevelled, foreignNarrowed, foreignLimit, foreignLimits};
 
 pub mod texts;
 
@@ -133,7 +133,7 @@ pub extern "C" fn danivomel_level(
 
 // A limit as it came across.
 fn limit_in(limit: ForeignLimit) -> Limit
-    ensures { λ r. ⌜ r ≡ limitOf limit ⌝ }
+    ensures { λ r. ⌜ r ≡ foreignLimit limit ⌝ }
 {
     if limit.any {
         return Limit::Any;
@@ -162,9 +162,9 @@ pub extern "C" fn danivomel_narrow(
     total: u64,
     limits: ForeignLimits,
 ) -> ForeignRefusal
-    ensures { λ r. ⌜ r ≡ foreignNarrowed (narrowing (now (lows .entry)) (now (highs .entry)) total (limitsOf limits)) ⌝ }
-    ensures { λ _. ⌜ now (lows .exit) ≡ listAfter (narrowing (now (lows .entry)) (now (highs .entry)) total (limitsOf limits)) (narrowedLows (now (lows .entry)) (now (highs .entry)) total (limitsOf limits)) (now (lows .entry)) ⌝ }
-    ensures { λ _. ⌜ now (highs .exit) ≡ listAfter (narrowing (now (lows .entry)) (now (highs .entry)) total (limitsOf limits)) (narrowedHighs (now (lows .entry)) (now (highs .entry)) total (limitsOf limits)) (now (highs .entry)) ⌝ }
+    ensures { λ r. ⌜ r ≡ foreignNarrowed (narrowing (now (lows .entry)) (now (highs .entry)) total (foreignLimits limits)) ⌝ }
+    ensures { λ _. ⌜ now (lows .exit) ≡ listAfter (narrowing (now (lows .entry)) (now (highs .entry)) total (foreignLimits limits)) (narrowedLows (now (lows .entry)) (now (highs .entry)) total (foreignLimits limits)) (now (lows .entry)) ⌝ }
+    ensures { λ _. ⌜ now (highs .exit) ≡ listAfter (narrowing (now (lows .entry)) (now (highs .entry)) total (foreignLimits limits)) (narrowedHighs (now (lows .entry)) (now (highs .entry)) total (foreignLimits limits)) (now (highs .entry)) ⌝ }
 {
     let deviation = limits.deviation;
     let spread = limits.spread;

@@ -14,7 +14,7 @@ ghost use lib.ListN.{length};
 ghost use Rattle.job.specs.Reading.{readingOf, readTable, lowsAfter, highsAfter};
 ghost use Rattle.works.specs.Calls.{settleText};
 ghost use Rattle.report.specs.Calls.{reportText};
-ghost use Rattle.table.specs.Tables.{lowsOf, highsOf};
+ghost use Rattle.table.specs.Tables.{lowsIn, highsIn};
 ghost use Rattle.planner.specs.Foreign.{foreignRead, foreignSettled, foreignReport};
 
 // A reading as it crosses.
@@ -41,9 +41,9 @@ fn reading_out(answer: Reading) -> ForeignRead
 // Reads a job text into a table, as table::read does.
 #[no_mangle]
 pub extern "C" fn danivomel_read(text: &[u8], table: &mut [Range]) -> ForeignRead
-    ensures { λ r. ⌜ r ≡ foreignRead (readingOf (readTable (now (text .entry)) (length (lowsOf (now (table .entry)))) (length (highsOf (now (table .entry)))))) ⌝ }
-    ensures { λ _. ⌜ lowsOf (now (table .exit)) ≡ lowsAfter (readTable (now (text .entry)) (length (lowsOf (now (table .entry)))) (length (highsOf (now (table .entry))))) (lowsOf (now (table .entry))) ⌝ }
-    ensures { λ _. ⌜ highsOf (now (table .exit)) ≡ highsAfter (readTable (now (text .entry)) (length (lowsOf (now (table .entry)))) (length (highsOf (now (table .entry))))) (highsOf (now (table .entry))) ⌝ }
+    ensures { λ r. ⌜ r ≡ foreignRead (readingOf (readTable (now (text .entry)) (length (lowsIn (now (table .entry)))) (length (highsIn (now (table .entry)))))) ⌝ }
+    ensures { λ _. ⌜ lowsIn (now (table .exit)) ≡ lowsAfter (readTable (now (text .entry)) (length (lowsIn (now (table .entry)))) (length (highsIn (now (table .entry))))) (lowsIn (now (table .entry))) ⌝ }
+    ensures { λ _. ⌜ highsIn (now (table .exit)) ≡ highsAfter (readTable (now (text .entry)) (length (lowsIn (now (table .entry)))) (length (highsIn (now (table .entry))))) (highsIn (now (table .entry))) ⌝ }
 {
     let answer = table::read(text, table);
     reading_out(answer)
@@ -83,9 +83,9 @@ pub extern "C" fn danivomel_settle(
     table: &mut [Range],
     scratch: &mut [u64],
 ) -> ForeignSettled
-    ensures { λ r. ⌜ r ≡ foreignSettled (settleText (now (text .entry)) (lowsOf (now (table .entry))) (highsOf (now (table .entry))) (length (now (scratch .entry))) .answer) ⌝ }
-    ensures { λ _. ⌜ lowsOf (now (table .exit)) ≡ settleText (now (text .entry)) (lowsOf (now (table .entry))) (highsOf (now (table .entry))) (length (now (scratch .entry))) .lows ⌝ }
-    ensures { λ _. ⌜ highsOf (now (table .exit)) ≡ settleText (now (text .entry)) (lowsOf (now (table .entry))) (highsOf (now (table .entry))) (length (now (scratch .entry))) .highs ⌝ }
+    ensures { λ r. ⌜ r ≡ foreignSettled (settleText (now (text .entry)) (lowsIn (now (table .entry))) (highsIn (now (table .entry))) (length (now (scratch .entry))) .answer) ⌝ }
+    ensures { λ _. ⌜ lowsIn (now (table .exit)) ≡ settleText (now (text .entry)) (lowsIn (now (table .entry))) (highsIn (now (table .entry))) (length (now (scratch .entry))) .lows ⌝ }
+    ensures { λ _. ⌜ highsIn (now (table .exit)) ≡ settleText (now (text .entry)) (lowsIn (now (table .entry))) (highsIn (now (table .entry))) (length (now (scratch .entry))) .highs ⌝ }
 {
     let answer = table::settle(text, table, scratch);
     settling_out(answer)
@@ -129,10 +129,10 @@ pub extern "C" fn danivomel_report(
     scratch: &mut [u64],
     buffer: &mut [u8],
 ) -> ForeignReport
-    ensures { λ r. ⌜ r ≡ foreignReport (reportText (now (text .entry)) (lowsOf (now (table .entry))) (highsOf (now (table .entry))) (length (now (scratch .entry))) (now (buffer .entry)) .answer) ⌝ }
-    ensures { λ _. ⌜ lowsOf (now (table .exit)) ≡ reportText (now (text .entry)) (lowsOf (now (table .entry))) (highsOf (now (table .entry))) (length (now (scratch .entry))) (now (buffer .entry)) .lows ⌝ }
-    ensures { λ _. ⌜ highsOf (now (table .exit)) ≡ reportText (now (text .entry)) (lowsOf (now (table .entry))) (highsOf (now (table .entry))) (length (now (scratch .entry))) (now (buffer .entry)) .highs ⌝ }
-    ensures { λ _. ⌜ now (buffer .exit) ≡ reportText (now (text .entry)) (lowsOf (now (table .entry))) (highsOf (now (table .entry))) (length (now (scratch .entry))) (now (buffer .entry)) .buffer ⌝ }
+    ensures { λ r. ⌜ r ≡ foreignReport (reportText (now (text .entry)) (lowsIn (now (table .entry))) (highsIn (now (table .entry))) (length (now (scratch .entry))) (now (buffer .entry)) .answer) ⌝ }
+    ensures { λ _. ⌜ lowsIn (now (table .exit)) ≡ reportText (now (text .entry)) (lowsIn (now (table .entry))) (highsIn (now (table .entry))) (length (now (scratch .entry))) (now (buffer .entry)) .lows ⌝ }
+    ensures { λ _. ⌜ highsIn (now (table .exit)) ≡ reportText (now (text .entry)) (lowsIn (now (table .entry))) (highsIn (now (table .entry))) (length (now (scratch .entry))) (now (buffer .entry)) .highs ⌝ }
+    ensures { λ _. ⌜ now (buffer .exit) ≡ reportText (now (text .entry)) (lowsIn (now (table .entry))) (highsIn (now (table .entry))) (length (now (scratch .entry))) (now (buffer .entry)) .buffer ⌝ }
 {
     let answer = table::report(text, table, scratch, buffer);
     reporting_out(answer)

@@ -16,5 +16,5 @@ unfoldable pub form : List ℕ → List ℕ → List ℕ
 form word vs = flatten (word ∷ items vs ∷ [])
 
 -- 01: "each line ended by byte 10": the form that the word opens is closed
-unfoldable pub line : List ℕ → List ℕ → List ℕ
-line word vs = flatten (form word vs ∷ bytes ")\n" ∷ [])
+unfoldable pub printedLine : List ℕ → List ℕ → List ℕ
+printedLine word vs = flatten (form word vs ∷ bytes ")\n" ∷ [])

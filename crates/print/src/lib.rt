@@ -2,7 +2,7 @@
 ghost use Prim.Native.Nat.{_+_, _<_};
 ghost use mathlib.Core.List.{[], _∷_};
 ghost use Rattle.text.specs.Numbers.{printNumber};
-ghost use Rattle.print.specs.Items.{item, items, form, line};
+ghost use Rattle.print.specs.Items.{item, items, form, printedLine};
 ghost use Rattle.print.specs.Inner.Written.{Room, Wrote};
 
 // Writes a byte and hands back the index after it.
@@ -74,8 +74,8 @@ pub fn put_form(buffer: &mut [u8], at: usize, word: &[u8], vs: &[u64]) -> usize
 
 // Writes a line of a word and numbers, and hands back the index after it.
 pub fn put_line(buffer: &mut [u8], at: usize, word: &[u8], vs: &[u64]) -> usize
-    requires { ⌜ Room (now buffer) at (line (now word) (now vs)) ⌝ }
-    ensures { λ r. ⌜ Wrote (line (now (word .entry)) (now (vs .entry))) (now (buffer .entry)) at (now (buffer .exit)) r ⌝ }
+    requires { ⌜ Room (now buffer) at (printedLine (now word) (now vs)) ⌝ }
+    ensures { λ r. ⌜ Wrote (printedLine (now (word .entry)) (now (vs .entry))) (now (buffer .entry)) at (now (buffer .exit)) r ⌝ }
 {
     let next = put_form(buffer, at, word, vs);
     put_word(buffer, next, b")\n")

@@ -9,15 +9,15 @@ ghost use mathlib.Core.Path.{_≡_};
 ghost use Prim.Native.Nat.{_+_, _*_, _≤_};
 ghost use lib.ListN.{length};
 ghost use Rattle.probe.specs.Inner.Orders.{Ordered};
-ghost use Rattle.probe.specs.Inner.Tables.{Sound, Table};
+ghost use Rattle.probe.specs.Inner.Tables.{SoundWithTotal, Breakpoints};
 ghost use Rattle.probe.specs.Inner.Steps.{Risen};
 
 // Fills the table from the sorted bounds, row after row.
 fn fill(lows: &[u64], highs: &[u64], starts: &[u64], stops: &[u64], total: u64, table: &mut [u64])
-    requires { ⌜ Sound (now lows) (now highs) total ⌝ }
+    requires { ⌜ SoundWithTotal (now lows) (now highs) total ⌝ }
     requires { ⌜ Risen (now lows) (now highs) (now starts) (now stops) ⌝ }
     requires { ⌜ 6 * (2 * length (now lows)) + 6 ≤ length (now table) ⌝ }
-    ensures { λ _. ⌜ Table (now (lows .entry)) (now (highs .entry)) total (now (table .exit)) ⌝ }
+    ensures { λ _. ⌜ Breakpoints (now (lows .entry)) (now (highs .entry)) total (now (table .exit)) ⌝ }
 {
     let last = 2 * lows.len();
     let first = first_row(lows, highs, total);
@@ -49,11 +49,11 @@ pub fn build(
     total: u64,
     table: &mut [u64],
 )
-    requires { ⌜ Sound (now lows) (now highs) total ⌝ }
+    requires { ⌜ SoundWithTotal (now lows) (now highs) total ⌝ }
     requires { ⌜ length (now starts) ≡ length (now lows) ⌝ }
     requires { ⌜ length (now stops) ≡ length (now highs) ⌝ }
     requires { ⌜ 6 * (2 * length (now lows)) + 6 ≤ length (now table) ⌝ }
-    ensures { λ _. ⌜ Table (now (lows .entry)) (now (highs .entry)) total (now (table .exit)) ⌝ }
+    ensures { λ _. ⌜ Breakpoints (now (lows .entry)) (now (highs .entry)) total (now (table .exit)) ⌝ }
 {
     rising(lows, starts);
     rising(highs, stops);

@@ -14,7 +14,7 @@ ghost use Prim.Native.Nat.{_*_, _≤_};
 ghost use lib.ListN.{length};
 ghost use Rattle.model.specs.Plans.{hasPlan, taken};
 ghost use Rattle.probe.specs.Inner.Rows.{rowAt};
-ghost use Rattle.probe.specs.Inner.Tables.{Sound, Table};
+ghost use Rattle.probe.specs.Inner.Tables.{SoundWithTotal, Breakpoints};
 ghost use Rattle.probe.specs.Inner.Probes.{Found, InReach, LevelledOn, pinnedTotal};
 ghost use Rattle.probe.specs.Inner.Verdicts.{Asked, PinnedFigures, Spotted};
 
@@ -29,8 +29,8 @@ fn pinned_figures(
     v: u64,
     total: u64,
 ) -> Figures
-    requires { ⌜ Sound (now lows) (now highs) total ⌝ }
-    requires { ⌜ Table (now lows) (now highs) total (now table) ⌝ }
+    requires { ⌜ SoundWithTotal (now lows) (now highs) total ⌝ }
+    requires { ⌜ Breakpoints (now lows) (now highs) total (now table) ⌝ }
     requires { ⌜ Asked (now lows) (now highs) low high v ⌝ }
     requires { ⌜ Found (now table) (2 * length (now lows)) low high v total k ⌝ }
     requires { ⌜ total ≤ pinnedTotal (rowAt (now table) (2 * length (now lows))) low high v ⌝ }
@@ -85,8 +85,8 @@ pub struct Levelled {
 
 // The level at which the group has its total.
 pub fn level_on(lows: &[u64], highs: &[u64], table: &[u64], total: u64) -> Levelled
-    requires { ⌜ Sound (now lows) (now highs) total ⌝ }
-    requires { ⌜ Table (now lows) (now highs) total (now table) ⌝ }
+    requires { ⌜ SoundWithTotal (now lows) (now highs) total ⌝ }
+    requires { ⌜ Breakpoints (now lows) (now highs) total (now table) ⌝ }
     requires { ⌜ InReach (now table) (2 * length (now lows)) 0 0 0 total ⌝ }
     ensures { λ r. ⌜ LevelledOn (now (lows .entry)) (now (highs .entry)) (now (table .entry)) total r ⌝ }
 {
@@ -104,8 +104,8 @@ pub fn level_on(lows: &[u64], highs: &[u64], table: &[u64], total: u64) -> Level
 
 // Whether the group has a plan, from the row below its level.
 pub fn has_plan(lows: &[u64], highs: &[u64], table: &[u64], question: Question, row: usize) -> bool
-    requires { ⌜ Sound (now lows) (now highs) (question .total) ⌝ }
-    requires { ⌜ Table (now lows) (now highs) (question .total) (now table) ⌝ }
+    requires { ⌜ SoundWithTotal (now lows) (now highs) (question .total) ⌝ }
+    requires { ⌜ Breakpoints (now lows) (now highs) (question .total) (now table) ⌝ }
     requires { ⌜ InReach (now table) (2 * length (now lows)) 0 0 0 (question .total) ⌝ }
     requires { ⌜ Found (now table) (2 * length (now lows)) 0 0 0 (question .total) row ⌝ }
     ensures { λ r. ⌜ r ≡ hasPlan (now (lows .entry)) (now (highs .entry)) (question .total) (question .limits) ⌝ }

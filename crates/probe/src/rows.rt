@@ -2,7 +2,7 @@
 ghost use mathlib.Core.Path.{_≡_};
 ghost use Prim.Native.Nat.{_+_, _*_, _≤_};
 ghost use lib.ListN.{length};
-ghost use Rattle.probe.specs.Inner.Rows.{rowAt, Written};
+ghost use Rattle.probe.specs.Inner.Rows.{rowAt, RowWritten};
 
 // A breakpoint: its level, T there, the sum of |n × share − S| and the sum of squares of the shares there, and how many lows and highs are passed.
 pub struct Row {
@@ -33,7 +33,7 @@ pub fn read_row(table: &[u64], k: usize) -> Row
 // Writes row k of a table.
 pub fn write_row(table: &mut [u64], k: usize, row: Row)
     requires { ⌜ 6 * k + 6 ≤ length (now table) ⌝ }
-    ensures { λ _. ⌜ Written k row (now (table .entry)) (now (table .exit)) ⌝ }
+    ensures { λ _. ⌜ RowWritten k row (now (table .entry)) (now (table .exit)) ⌝ }
 {
     let at = 6 * k;
     table[at] = row.mark;

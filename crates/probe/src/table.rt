@@ -6,8 +6,8 @@ ghost use Prim.Native.Nat.{suc, _+_, _*_, _≤_, _<_};
 ghost use Rattle.model.specs.Shares.{greatestShare};
 ghost use lib.ListN.{length};
 ghost use Rattle.probe.specs.Inner.Walks.{First};
-ghost use Rattle.probe.specs.Inner.Steps.{Risen, Walk, Stepped, Begun};
-ghost use Rattle.probe.specs.Inner.Tables.{Sound, Sums, SpanTo, Movable, Moved, fromMean, square};
+ghost use Rattle.probe.specs.Inner.Steps.{Risen, RowReached, NextRow, Begun};
+ghost use Rattle.probe.specs.Inner.Tables.{SoundWithTotal, Sums, SpanTo, Movable, RowMoved, fromMean, square};
 
 // A share's part of the deviation.
 pub fn from_mean(count: u64, total: u64, x: u64) -> u64
@@ -36,11 +36,11 @@ fn moved(stored: u64, up: u64, down: u64, from: u64, to: u64) -> u64
 
 // A row moved to a further level, with no bound between.
 fn row_at(lows: &[u64], highs: &[u64], total: u64, row: Row, mark: u64) -> Row
-    requires { ⌜ Sound (now lows) (now highs) total ⌝ }
+    requires { ⌜ SoundWithTotal (now lows) (now highs) total ⌝ }
     requires { ⌜ Sums (now lows) (now highs) total row ⌝ }
     requires { ⌜ SpanTo (now lows) (now highs) row mark ⌝ }
     requires { ⌜ mark ≤ greatestShare ⌝ }
-    ensures { λ r. ⌜ Moved (now (lows .entry)) (now (highs .entry)) total row mark r ⌝ }
+    ensures { λ r. ⌜ RowMoved (now (lows .entry)) (now (highs .entry)) total row mark r ⌝ }
 {
     let count = lows.len() as u64;
     Row {
@@ -90,11 +90,11 @@ pub fn next_row(
     total: u64,
     row: Row,
 ) -> Row
-    requires { ⌜ Sound (now lows) (now highs) total ⌝ }
+    requires { ⌜ SoundWithTotal (now lows) (now highs) total ⌝ }
     requires { ⌜ Risen (now lows) (now highs) (now starts) (now stops) ⌝ }
-    requires { ⌜ Walk (now lows) (now highs) (now starts) (now stops) total row ⌝ }
+    requires { ⌜ RowReached (now lows) (now highs) (now starts) (now stops) total row ⌝ }
     requires { ⌜ row .lows + row .highs < 2 * length (now lows) ⌝ }
-    ensures { λ r. ⌜ Stepped (now (lows .entry)) (now (highs .entry)) (now (starts .entry)) (now (stops .entry)) total row r ⌝ }
+    ensures { λ r. ⌜ NextRow (now (lows .entry)) (now (highs .entry)) (now (starts .entry)) (now (stops .entry)) total row r ⌝ }
 {
     let a = row.lows as usize;
     let b = row.highs as usize;
@@ -110,7 +110,7 @@ pub fn next_row(
 
 // The row for level 0, at which the shares are the lows.
 pub fn first_row(lows: &[u64], highs: &[u64], total: u64) -> Row
-    requires { ⌜ Sound (now lows) (now highs) total ⌝ }
+    requires { ⌜ SoundWithTotal (now lows) (now highs) total ⌝ }
     ensures { λ r. ⌜ Begun (now (lows .entry)) (now (highs .entry)) total r ⌝ }
 {
     let count = lows.len() as u64;

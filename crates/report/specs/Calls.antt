@@ -3,7 +3,7 @@ use Prim.Native.Nat.{ℕ}
 use mathlib.Core.List.{List, _++_}
 use lib.Dec.{leb}
 use lib.ListN.{length, take, drop}
-use Rattle.job.specs.Job.{Job, Outcome, accepted, refused, noLines, refusal, mostBytes, readJob}
+use Rattle.job.specs.Job.{Job, JobOrRefusal, accepted, refused, noLines, mostBytes, readJob}
 use Rattle.model.specs.Groups.{Group}
 use Rattle.model.specs.Shares.{pick}
 use Rattle.works.specs.Calls.{Settlement, settleText}
@@ -12,6 +12,7 @@ use Rattle.works.specs.declared.Settling.{Settling}
 use Rattle.works.specs.declared.Settling.the-variants as settling
 use Rattle.report.specs.Reports.{reportOf}
 use Rattle.report.specs.declared.Reporting.{Reporting}
+use Rattle.model.specs.Refusals.{refusal}
 use Rattle.report.specs.declared.Reporting.the-variants.{Written, NoPlan, Refused}
 
 -- what a call answers, both lists of the table after it, and the buffer
@@ -38,7 +39,7 @@ unfoldable pub reportSettled : List Group → ℕ → Settlement → List ℕ �
 reportSettled groups units settled buffer = reportBy groups units (settled .answer) (settled .lows) (settled .highs) buffer
 
 -- the job that a text holds
-abbrev pub jobOf : Outcome → Job
+abbrev pub jobOf : JobOrRefusal → Job
 jobOf (accepted found) = found
 jobOf (refused refusal) = noLines
 

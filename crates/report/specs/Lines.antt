@@ -3,15 +3,15 @@ use Prim.Native.Nat.{ℕ}
 use mathlib.Core.List.{List, [], _∷_, flatten}
 use Rattle.model.specs.declared.Figures.{Figures}
 use Rattle.text.specs.Words.{bytes}
-use Rattle.print.specs.Items.{form, line}
+use Rattle.print.specs.Items.{form, printedLine}
 
 -- 01: "(settled 3)": the passes
 abbrev pub settledLine : ℕ → List ℕ
-settledLine passes = line (bytes "(settled") (passes ∷ [])
+settledLine passes = printedLine (bytes "(settled") (passes ∷ [])
 
 -- 01: "(unit 1 5 6)": "unit number, low, high"
 abbrev pub unitLine : ℕ → ℕ → ℕ → List ℕ
-unitLine number low high = line (bytes "(unit") (number ∷ low ∷ high ∷ [])
+unitLine number low high = printedLine (bytes "(unit") (number ∷ low ∷ high ∷ [])
 
 -- 01: "(group 1 5 0 0 (plan 5 5))": "group number, level, deviation, spread, levelled shares"
 unfoldable pub groupLine : ℕ → ℕ → Figures → List ℕ → List ℕ
@@ -24,4 +24,4 @@ groupLine number level figures shares =
 
 -- 01: "(refused 12 1)": "number, place"
 abbrev pub refusalLine : ℕ → ℕ → List ℕ
-refusalLine number place = line (bytes "(refused") (number ∷ place ∷ [])
+refusalLine number place = printedLine (bytes "(refused") (number ∷ place ∷ [])

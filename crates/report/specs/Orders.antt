@@ -14,17 +14,17 @@ use Rattle.report.specs.declared.Reporting.{Reporting}
 use Rattle.report.specs.declared.Reporting.the-variants.{Written, NoPlan, Refused}
 
 -- the passes of an answer
-abbrev pub passesIn : Reporting → ℕ
-passesIn (Written size passes) = passes
-passesIn (NoPlan number place passes) = passes
-passesIn (Refused refusal) = 0
+abbrev pub reportPasses : Reporting → ℕ
+reportPasses (Written size passes) = passes
+reportPasses (NoPlan number place passes) = passes
+reportPasses (Refused refusal) = 0
 
 -- one call
 module _ {text lows highs : List ℕ} {scratch : ℕ} (cleared : Cleared text lows highs scratch) (buffer : List ℕ)
     (long : mostBytes ≤ length buffer) where
   -- 01: refused for want of a plan
-  abbrev pub WithoutPlan : Type 0
-  WithoutPlan = (number : ℕ) × (place : ℕ) × (passes : ℕ) × (outcome cleared buffer long .answer ≡ NoPlan number place passes)
+  abbrev pub ReportedWithoutPlan : Type 0
+  ReportedWithoutPlan = (number : ℕ) × (place : ℕ) × (passes : ℕ) × (outcome cleared buffer long .answer ≡ NoPlan number place passes)
 
   module _ {size passes : ℕ} (answers : outcome cleared buffer long .answer ≡ Written size passes) where
     -- the report: as many bytes of the buffer as the call answers
@@ -49,4 +49,4 @@ module _ {text other lows highs : List ℕ} {scratch room : ℕ} (first : Cleare
         → outcome first buffer long .highs ≡ outcome second space wide .highs
         → SameLines (count first) (groups first) (groups second) (report first buffer long answers) (report second space wide replies)
         → SameReports
-    refused : WithoutPlan first buffer long → WithoutPlan second space wide → SameReports
+    refused : ReportedWithoutPlan first buffer long → ReportedWithoutPlan second space wide → SameReports

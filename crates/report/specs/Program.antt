@@ -1,14 +1,14 @@
 -- What the program prints of a job text. Assumes nothing.
 use Prim.Native.Nat.{ℕ}
 use mathlib.Core.List.{List}
-use Rattle.job.specs.Job.{Outcome, accepted, refused, readJob}
+use Rattle.job.specs.Job.{JobOrRefusal, accepted, refused, readJob}
 use Rattle.works.specs.Settling.{settle}
 use Rattle.works.specs.Tables.{tableOf}
 use Rattle.report.specs.Lines.{refusalLine}
 use Rattle.report.specs.Reports.{printed}
 
 -- what is printed of a reading: of a job, what settling its groups from the ranges of its unit lines gives; of a refusal, its line
-unfoldable pub printedRead : Outcome → List ℕ
+unfoldable pub printedRead : JobOrRefusal → List ℕ
 printedRead (accepted found) = printed (found .groups) (settle (found .groups) (tableOf (found .lows) (found .highs)))
 printedRead (refused refusal) = refusalLine (refusal .number) (refusal .place)
 

@@ -2,11 +2,11 @@
 use Prim.Native.Nat.{ℕ, suc, _≤_}
 use mathlib.Core.List.{List, List·Memᴰ}
 use lib.ListN.{length}
-use Rattle.model.specs.Shares.{greatestTotal}
+use Rattle.model.specs.Shares.{greatestTotal, mostUnits}
 use Rattle.model.specs.Groups.{Group}
 use Rattle.group.specs.Sound.{HasShares}
 use Rattle.groups.specs.Memberships.{memberships}
-use Rattle.job.specs.Job.{mostUnits, mostGroups, mostMemberships}
+use Rattle.job.specs.Job.{mostGroups, mostMemberships}
 use Rattle.works.specs.Tables.{Table, Valid, Named, units, lowsOf, highsOf}
 
 -- a group that can be levelled in the table: its members are units of it, and shares with its total exist there

@@ -11,7 +11,7 @@ ghost use mathlib.Core.List.{flatten};
 ghost use mathlib.Core.Path.{_≡_};
 ghost use lib.ListN.{length, take};
 ghost use Rattle.group.specs.Levelling.{levelledTo, planAfter};
-ghost use Rattle.group.specs.Sound.{greatestCount, Sound};
+ghost use Rattle.group.specs.Sound.{SoundRanges};
 ghost use Rattle.groups.specs.Inner.Flat.{groupIn, groupsIn};
 ghost use Rattle.model.specs.Levels.{levelled};
 ghost use Rattle.print.specs.Inner.Written.{Room, Wrote};
@@ -19,6 +19,7 @@ ghost use Rattle.report.specs.Ready.{Levelable};
 ghost use Rattle.report.specs.Inner.Ready.{LevelledIn, Printable};
 ghost use Rattle.report.specs.Reports.{groupLines};
 ghost use Rattle.works.specs.Tables.{Named, gather, tableOf};
+ghost use Rattle.model.specs.Shares.{mostUnits};
 
 // Writes the members' entries over the front of a list.
 fn gather_front(entries: &[u64], members: &[u64], out: &mut [u64])
@@ -39,8 +40,8 @@ fn level_members(
     plan: &mut [u64],
 ) -> Levelling
     requires { ⌜ Named (length (now lows)) (now members) × Named (length (now highs)) (now members) ⌝ }
-    requires { ⌜ Sound (gather (now lows) (now members)) (gather (now highs) (now members)) ⌝ }
-    requires { ⌜ greatestCount ≤ length (now plan) ⌝ }
+    requires { ⌜ SoundRanges (gather (now lows) (now members)) (gather (now highs) (now members)) ⌝ }
+    requires { ⌜ mostUnits ≤ length (now plan) ⌝ }
     ensures { λ r. ⌜ r ≡ levelledTo (gather (now (lows .entry)) (now (members .entry))) (gather (now (highs .entry)) (now (members .entry))) total ⌝ }
     ensures { λ r. ⌜ now (plan .exit) ≡ planAfter r (levelled (gather (now (lows .entry)) (now (members .entry))) (gather (now (highs .entry)) (now (members .entry))) total) (now (plan .entry)) ⌝ }
 {
@@ -63,7 +64,7 @@ fn level_stored(
     requires { ⌜ Levelable (tableOf (now lows) (now highs)) (groupIn (now flat) group) ⌝ }
     requires { ⌜ length (now highs) ≡ length (now lows) ⌝ }
     requires { ⌜ group .from + group .count ≤ length (now flat) ⌝ }
-    requires { ⌜ greatestCount ≤ length (now plan) ⌝ }
+    requires { ⌜ mostUnits ≤ length (now plan) ⌝ }
     ensures { λ r. ⌜ LevelledIn (tableOf (now (lows .entry)) (now (highs .entry))) (groupIn (now (flat .entry)) group) r (now (plan .exit)) ⌝ }
 {
     let total = group.total;

@@ -4,9 +4,9 @@ use mathlib.Core.List.{List, map}
 use Rattle.table.specs.declared.Range.{Range}
 
 -- the lows of a table
-abbrev pub lowsOf : List Range → List ℕ
-lowsOf t = map (λ r. r .low) t
+abbrev pub lowsIn : List Range → List ℕ
+lowsIn t = map (λ r. r .low) t
 
 -- the highs of a table
-abbrev pub highsOf : List Range → List ℕ
-highsOf t = map (λ r. r .high) t
+abbrev pub highsIn : List Range → List ℕ
+highsIn t = map (λ r. r .high) t

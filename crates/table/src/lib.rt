@@ -6,10 +6,10 @@ use works::Settling;
 ghost use mathlib.Core.Path.{_≡_};
 ghost use Prim.Native.Nat.{_≤_, min};
 ghost use lib.ListN.{length};
-ghost use Rattle.job.specs.Reading.{Filled};
+ghost use Rattle.job.specs.Reading.{ReadInto};
 ghost use Rattle.report.specs.Calls.{reported, reportText};
 ghost use Rattle.works.specs.Calls.{settlement, settleText};
-ghost use Rattle.table.specs.Tables.{lowsOf, highsOf};
+ghost use Rattle.table.specs.Tables.{lowsIn, highsIn};
 ghost use Rattle.table.specs.Inner.Tables.{boundsOf, over, ranges, afterSettling, afterReporting, bufferAfter, afterReading};
 
 // The range of a unit.
@@ -95,7 +95,7 @@ fn settle_bounds(text: &[u8], bounds: Bounds, scratch: &mut [u64]) -> SettledBou
 
 // Settles a job text over a table, as works::calls::settle does over its lows and highs.
 pub fn settle(text: &[u8], table: &mut [Range], scratch: &mut [u64]) -> Settling
-    ensures { λ r. ⌜ settlement r (lowsOf (now (table .exit))) (highsOf (now (table .exit))) ≡ settleText (now (text .entry)) (lowsOf (now (table .entry))) (highsOf (now (table .entry))) (length (now (scratch .entry))) ⌝ }
+    ensures { λ r. ⌜ settlement r (lowsIn (now (table .exit))) (highsIn (now (table .exit))) ≡ settleText (now (text .entry)) (lowsIn (now (table .entry))) (highsIn (now (table .entry))) (length (now (scratch .entry))) ⌝ }
 {
     let before = take_bounds(table);
     let settled = settle_bounds(text, before, scratch);
@@ -138,7 +138,7 @@ fn report_bounds(
 
 // Settles a job text over a table and writes its report, as report::calls::report does over its lows and highs.
 pub fn report(text: &[u8], table: &mut [Range], scratch: &mut [u64], buffer: &mut [u8]) -> Reporting
-    ensures { λ r. ⌜ reported r (lowsOf (now (table .exit))) (highsOf (now (table .exit))) (now (buffer .exit)) ≡ reportText (now (text .entry)) (lowsOf (now (table .entry))) (highsOf (now (table .entry))) (length (now (scratch .entry))) (now (buffer .entry)) ⌝ }
+    ensures { λ r. ⌜ reported r (lowsIn (now (table .exit))) (highsIn (now (table .exit))) (now (buffer .exit)) ≡ reportText (now (text .entry)) (lowsIn (now (table .entry))) (highsIn (now (table .entry))) (length (now (scratch .entry))) (now (buffer .entry)) ⌝ }
 {
     let before = take_bounds(table);
     let done = report_bounds(text, before, scratch, buffer);
@@ -170,7 +170,7 @@ fn read_bounds(text: &[u8], bounds: Bounds) -> ReadBounds
 
 // Reads a job text into a table, as job::read does into its lows and highs.
 pub fn read(text: &[u8], table: &mut [Range]) -> Reading
-    ensures { λ r. ⌜ Filled (now (text .entry)) (lowsOf (now (table .entry))) (highsOf (now (table .entry))) (lowsOf (now (table .exit))) (highsOf (now (table .exit))) r ⌝ }
+    ensures { λ r. ⌜ ReadInto (now (text .entry)) (lowsIn (now (table .entry))) (highsIn (now (table .entry))) (lowsIn (now (table .exit))) (highsIn (now (table .exit))) r ⌝ }
 {
     let before = take_bounds(table);
     let found = read_bounds(text, before);

@@ -44,14 +44,14 @@ leaving outcome units lows highs =
     settlement (answerOf outcome) (table .lows ++ drop units lows) (table .highs ++ drop units highs)
 
 -- what a check's refusal answers: the table holds what it held
-abbrev pub afterCheck : Check → List ℕ → List ℕ → Settlement → Settlement
-afterCheck (Failed refusal) lows highs next = settlement (Refused refusal) lows highs
-afterCheck Passed lows highs next = next
+abbrev pub settledAfter : Check → List ℕ → List ℕ → Settlement → Settlement
+settledAfter (Failed refusal) lows highs next = settlement (Refused refusal) lows highs
+settledAfter Passed lows highs next = next
 
 -- settling groups over the first units of a table, with a scratch of so many numbers
 unfoldable pub settleJob : List Group → ℕ → List ℕ → List ℕ → ℕ → Settlement
 settleJob groups units lows highs scratch =
-    afterCheck (checkTable units lows highs scratch) lows highs
+    settledAfter (checkTable units lows highs scratch) lows highs
     (leaving (settle groups (tableOf (take units lows) (take units highs))) units lows highs)
 
 -- 01: settling "takes the groups from the text and opens with the ranges that the table holds"

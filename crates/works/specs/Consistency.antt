@@ -9,7 +9,7 @@ use Rattle.works.specs.Tables.{Table, Valid, units, lowOf, highOf, Insid
 use Rattle.groups.specs.Memberships.{size, unitOf, SoundGroup}
 
 -- the groups and the opening table that the checks ahead of settling let through
-pub record Sound (groups : List Group) (table : Table) : Type 0 where
+pub record SoundOpening (groups : List Group) (table : Table) : Type 0 where
   pub valid : Valid table
   pub each : (group : Group) → List·Memᴰ group groups → SoundGroup (units table) group
 

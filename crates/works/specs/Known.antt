@@ -4,7 +4,7 @@ use mathlib.Core.Bool.{Bool, true, false, _&&_}
 use mathlib.Core.List.{List, [], _∷_, _++_, map}
 use lib.Dec.{eqb}
 use Rattle.model.specs.Groups.{Group}
-use Rattle.model.specs.Known.{Known, known, holds, limitsOf}
+use Rattle.model.specs.Known.{Known, known, isKnown, limitsOf}
 use Rattle.model.specs.declared.Limit.the-variants.{Any, AtMost}
 use Rattle.works.specs.Settling.{Outcome, settle}
 use Rattle.works.specs.Tables.{Table, sameTable}
@@ -21,7 +21,7 @@ sameOutcome (Outcome.refused n k p) (Outcome.settled b q) = false
 sameOutcome (Outcome.refused m j p) (Outcome.refused n k q) = eqb m n && (eqb j k && eqb p q)
 
 unfoldable pub holdsJob : KnownJob → Bool
-holdsJob (KnownJob.group known) = holds known
+holdsJob (KnownJob.group known) = isKnown known
 holdsJob (KnownJob.job groups table outcome) = sameOutcome (settle groups table) outcome
 
 unfoldable pub allJobs : List KnownJob → Bool

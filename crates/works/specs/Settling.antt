@@ -15,9 +15,9 @@ pub data Revised : Type 0 where
   noPlan : ℕ → Revised
 
 -- what a pass leaves: the table, or the refusal's number and its place, the group
-pub data Passed : Type 0 where
-  passed : Table → Passed
-  stopped : ℕ → ℕ → Passed
+pub data AfterPass : Type 0 where
+  passed : Table → AfterPass
+  stopped : ℕ → ℕ → AfterPass
 
 -- what settling leaves: the settled table and the passes, or the refusal's number, its place and the passes
 pub data Outcome : Type 0 where
@@ -43,12 +43,12 @@ revise table group =
 
 -- 01: a pass "turns to each group once in job order, each turn seeing what earlier turns left", and a group without
 -- a plan ends it; the place is that of the first of these groups
-unfoldable pub passFrom : ℕ → List Group → Table → Passed
+unfoldable pub passFrom : ℕ → List Group → Table → AfterPass
 passFrom place [] table = passed table
 passFrom place (group ∷ groups) table =
     elim (revise table group) [ revised next ↦ passFrom (suc place) groups next | noPlan number ↦ stopped number place ]
 
-abbrev pub pass : List Group → Table → Passed
+abbrev pub pass : List Group → Table → AfterPass
 pass groups table = passFrom 1 groups table
 
 -- 01: "Passes go on until one changes nothing; a group without a plan ends the pass and the settling together";

@@ -10,14 +10,14 @@ use model::Refusal;
 ghost use mathlib.Core.Path.{_≡_};
 ghost use Prim.Native.Nat.{_≤_};
 ghost use lib.ListN.{length};
-ghost use Rattle.group.specs.Sound.{greatestCount};
+ghost use Rattle.model.specs.Shares.{mostUnits};
 ghost use Rattle.groups.specs.Inner.Flat.{groupsIn};
 ghost use Rattle.works.specs.Calls.{settlement, hasRoom, checkTable, settleJob, settleText};
 ghost use Rattle.works.specs.Inner.Asked.{Prepared};
 
 // Whether lists of these lengths are long enough for the units.
 fn has_room(units: usize, lows: usize, highs: usize, scratch: usize) -> bool
-    requires { ⌜ units ≤ greatestCount ⌝ }
+    requires { ⌜ units ≤ mostUnits ⌝ }
     ensures { λ r. ⌜ r ≡ hasRoom units lows highs scratch ⌝ }
 {
     if lows < units {
@@ -31,7 +31,7 @@ fn has_room(units: usize, lows: usize, highs: usize, scratch: usize) -> bool
 
 // The first refusal ahead of settling that the table and the scratch cause.
 fn check_table(units: usize, lows: &[u64], highs: &[u64], scratch: usize) -> Check
-    requires { ⌜ units ≤ greatestCount ⌝ }
+    requires { ⌜ units ≤ mostUnits ⌝ }
     ensures { λ r. ⌜ r ≡ checkTable units (now (lows .entry)) (now (highs .entry)) scratch ⌝ }
 {
     if !has_room(units, lows.len(), highs.len(), scratch) {

@@ -12,7 +12,7 @@ ghost use mathlib.Core.Path.{_≡_};
 ghost use lib.ListN.{length};
 ghost use Rattle.works.specs.Answers.{answerOf, tableAfter};
 ghost use Rattle.groups.specs.Inner.Flat.{groupsIn};
-ghost use Rattle.works.specs.Inner.Asked.{Workspace, Opening};
+ghost use Rattle.works.specs.Inner.Asked.{MemberRoom, Opening};
 ghost use Rattle.works.specs.Inner.Passes.{leftBy};
 ghost use Rattle.works.specs.Settling.{pass, settle};
 ghost use Rattle.works.specs.Tables.{tableOf};
@@ -33,7 +33,7 @@ fn run_pass(
     member_highs: &mut [u64],
 ) -> Pass
     requires { ⌜ Opening (now flat) groups (tableOf (now lows) (now highs)) ⌝ }
-    requires { ⌜ Workspace (now «member_lows») (now «member_highs») ⌝ }
+    requires { ⌜ MemberRoom (now «member_lows») (now «member_highs») ⌝ }
     ensures { λ r. ⌜ leftBy r (tableOf (now (lows .exit)) (now (highs .exit))) ≡ pass (groupsIn groups (now (flat .entry))) (tableOf (now (lows .entry)) (now (highs .entry))) ⌝ }
 {
     let mut at: usize = 0;
@@ -60,7 +60,7 @@ fn run_passes(
     member_highs: &mut [u64],
 ) -> Settling
     requires { ⌜ Opening (now flat) groups (tableOf (now lows) (now highs)) ⌝ }
-    requires { ⌜ Workspace (now «member_lows») (now «member_highs») ⌝ }
+    requires { ⌜ MemberRoom (now «member_lows») (now «member_highs») ⌝ }
     ensures { λ r. ⌜ r ≡ answerOf (settle (groupsIn groups (now (flat .entry))) (tableOf (now (lows .entry)) (now (highs .entry)))) ⌝ }
     ensures { λ _. ⌜ tableOf (now (lows .exit)) (now (highs .exit)) ≡ tableAfter (settle (groupsIn groups (now (flat .entry))) (tableOf (now (lows .entry)) (now (highs .entry)))) (tableOf (now (lows .exit)) (now (highs .exit))) ⌝ }
 {

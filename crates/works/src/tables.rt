@@ -4,12 +4,12 @@ ghost use Prim.Native.Nat.{_+_, _≤_};
 ghost use mathlib.Core.List.{_++_};
 ghost use mathlib.Core.Path.{_≡_};
 ghost use lib.ListN.{length, take, drop};
-ghost use Rattle.group.specs.Sound.{Sound};
+ghost use Rattle.group.specs.Sound.{SoundRanges};
 ghost use Rattle.works.specs.Tables.{widths};
 
 // The sum of high − low.
 pub fn width_of(lows: &[u64], highs: &[u64]) -> u64
-    requires { ⌜ Sound (now lows) (now highs) ⌝ }
+    requires { ⌜ SoundRanges (now lows) (now highs) ⌝ }
     ensures { λ r. ⌜ r ≡ widths (now (lows .entry)) (now (highs .entry)) ⌝ }
 {
     let mut width: u64 = 0;

@@ -9,7 +9,7 @@ ghost use Prim.Native.Nat.{_+_, _≤_};
 ghost use mathlib.Core.Path.{_≡_};
 ghost use lib.ListN.{length};
 ghost use Rattle.groups.specs.Inner.Flat.{groupIn};
-ghost use Rattle.works.specs.Inner.Asked.{groupOf, Turning, Room, Workspace};
+ghost use Rattle.works.specs.Inner.Asked.{groupWith, Turning, MemberLists, MemberRoom};
 ghost use Rattle.works.specs.Settling.{revisedBy, revise};
 ghost use Rattle.works.specs.Tables.{tableOf};
 
@@ -23,9 +23,9 @@ fn narrow_members(
     member_lows: &mut [u64],
     member_highs: &mut [u64],
 ) -> Turn
-    requires { ⌜ Turning (tableOf (now lows) (now highs)) (groupOf question (now members)) ⌝ }
-    requires { ⌜ Room (length (now members)) (now «member_lows») (now «member_highs») ⌝ }
-    ensures { λ r. ⌜ revisedBy r (tableOf (now (lows .exit)) (now (highs .exit))) ≡ revise (tableOf (now (lows .entry)) (now (highs .entry))) (groupOf question (now (members .entry))) ⌝ }
+    requires { ⌜ Turning (tableOf (now lows) (now highs)) (groupWith question (now members)) ⌝ }
+    requires { ⌜ MemberLists (length (now members)) (now «member_lows») (now «member_highs») ⌝ }
+    ensures { λ r. ⌜ revisedBy r (tableOf (now (lows .exit)) (now (highs .exit))) ≡ revise (tableOf (now (lows .entry)) (now (highs .entry))) (groupWith question (now (members .entry))) ⌝ }
 {
     gather(lows, members, member_lows);
     gather(highs, members, member_highs);
@@ -46,7 +46,7 @@ pub fn take_turn(
 ) -> Turn
     requires { ⌜ Turning (tableOf (now lows) (now highs)) (groupIn (now flat) group) ⌝ }
     requires { ⌜ group .from + group .count ≤ length (now flat) ⌝ }
-    requires { ⌜ Workspace (now «member_lows») (now «member_highs») ⌝ }
+    requires { ⌜ MemberRoom (now «member_lows») (now «member_highs») ⌝ }
     ensures { λ r. ⌜ revisedBy r (tableOf (now (lows .exit)) (now (highs .exit))) ≡ revise (tableOf (now (lows .entry)) (now (highs .entry))) (groupIn (now (flat .entry)) group) ⌝ }
 {
     let limits = group.limits;

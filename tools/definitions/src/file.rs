@@ -18,6 +18,8 @@ pub enum Kind {
 pub struct Declaration {
     pub name: String,
     pub kind: Kind,
+    /// Whether other files can name it.
+    pub public: bool,
     /// The line of the signature.
     pub line: usize,
     /// How many lines it has, the comment above counted and empty lines not.

@@ -1,4 +1,4 @@
-//! Prints what is reached, and says what stands where it should not.
+//! Counts and prints what is reached.
 
 use crate::file::{Declaration, Kind};
 use crate::reach::Reached;
@@ -17,6 +17,26 @@ impl Count {
     pub fn say(&self, what: &str) -> String {
         format!("{} {what}, {} lines, {} files", self.declarations, self.lines, self.files)
     }
+
+    /// The sentence of README.md: so many in all, and so many of them from the contracts.
+    pub fn quoted(&self, contracts: &Count) -> String {
+        format!(
+            "{} definitions, {} lines in {} files ({} of them, {} lines, from the contracts of the entry points alone)",
+            thousands(self.declarations),
+            thousands(self.lines),
+            self.files,
+            contracts.declarations,
+            thousands(contracts.lines)
+        )
+    }
+}
+
+/// A number below a million with a comma.
+fn thousands(number: usize) -> String {
+    if number < 1000 {
+        return number.to_string();
+    }
+    format!("{},{:03}", number / 1000, number % 1000)
 }
 
 /// The reached declarations of a kind in a file. A law that something leads to is taken for a definition.
@@ -30,7 +50,7 @@ fn of_file(tree: &Tree, reached: &Reached, file: usize, kind: Kind) -> Vec<Id> {
 }
 
 /// The reached declarations of a kind by file.
-fn by_file(tree: &Tree, reached: &Reached, kind: Kind) -> Vec<Vec<Id>> {
+pub fn by_file(tree: &Tree, reached: &Reached, kind: Kind) -> Vec<Vec<Id>> {
     let files = (0..tree.files.len()).map(|file| of_file(tree, reached, file, kind));
     files.filter(|here| !here.is_empty()).collect()
 }
@@ -62,32 +82,4 @@ pub fn list(tree: &Tree, reached: &Reached, kind: Kind) -> String {
         }
     }
     text
-}
-
-/// A line for each definition in the wrong place: what is reached stands right in specs/, in a file without laws.
-pub fn faults(tree: &Tree, reached: &Reached) -> Vec<String> {
-    let ids = by_file(tree, reached, Kind::Definition).concat();
-    let said = ids.iter().filter_map(|id| {
-        let path = &tree.files[id.0].path;
-        let declaration = tree.declaration(*id);
-        fault(tree, *id).map(|why| format!("{path}:{}: {} {why}", declaration.line, declaration.name))
-    });
-    said.collect()
-}
-
-fn fault(tree: &Tree, id: Id) -> Option<String> {
-    let file = &tree.files[id.0];
-    if tree.declaration(id).kind == Kind::Law {
-        return Some("is neither abbrev nor unfoldable".to_string());
-    }
-    let parts: Vec<&str> = file.path.split('/').collect();
-    if parts.len() > 4 {
-        return Some(format!("stands in {}/", parts[3]));
-    }
-    let laws = file.declarations.iter().filter(|declaration| declaration.kind == Kind::Law).count();
-    if laws > 0 {
-        Some(format!("stands among laws ({laws})"))
-    } else {
-        None
-    }
 }

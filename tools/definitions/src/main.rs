@@ -1,8 +1,9 @@
-//! definitions [--check]: lists the definitions that there are to believe, or checks that they stand apart from laws. Runs in
-//! the repository's root.
+//! definitions [--check]: lists the definitions that there are to believe, or checks that they stand apart from laws, that none
+//! shares a name and that README.md has their count. Runs in the repository's root.
 
+use danivomel_definitions::faults::{definitions, faults};
 use danivomel_definitions::file::Kind;
-use danivomel_definitions::listing::{count, faults, list};
+use danivomel_definitions::listing::{count, list};
 use danivomel_definitions::origins::{entries, promised};
 use danivomel_definitions::reach::Reached;
 use danivomel_definitions::tree::Tree;
@@ -66,11 +67,21 @@ fn listed(found: &Found) -> ExitCode {
     ExitCode::SUCCESS
 }
 
-/// A line for each definition in the wrong place, and how many are in the right one.
+/// A line for each fault, with README's count among them, and how many places, names and counts are right.
 fn checked(found: &Found) -> ExitCode {
-    let wrong = faults(&found.tree, &found.by_all);
+    let Found { tree, by_contracts, by_all } = found;
+    let readme = match text("README.md") {
+        Ok(readme) => readme.split_whitespace().collect::<Vec<_>>().join(" "),
+        Err(message) => return fail(&message),
+    };
+    let all = count(tree, by_all, Kind::Definition);
+    let quoted = all.quoted(&count(tree, by_contracts, Kind::Definition));
+    let mut wrong = faults(tree, by_all);
+    if !readme.contains(&quoted) {
+        wrong.push(format!("README.md: does not say '{quoted}'"));
+    }
     wrong.iter().for_each(|fault| println!("{fault}"));
-    let all = count(&found.tree, &found.by_all, Kind::Definition).declarations;
-    println!("definitions: {} passed, {} failed", all - wrong.len(), wrong.len());
+    let asked = all.declarations + definitions(tree).len() + 1;
+    println!("definitions: {} passed, {} failed", asked.saturating_sub(wrong.len()), wrong.len());
     ExitCode::from(if wrong.is_empty() { 0 } else { 1 })
 }

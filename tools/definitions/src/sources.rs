@@ -56,6 +56,7 @@ fn declaration(kind: Kind, name: &str, lines: &[&str], at: usize) -> Declaration
     Declaration {
         name: name.to_string(),
         kind,
+        public: lines[at].starts_with("pub "),
         line: at + 1,
         lines: above + full_lines(own),
         statement,

@@ -82,16 +82,17 @@ impl Reader<'_> {
         let item = words(&self.lines[at..end]);
         let is_mark = |word: &Word| ["abbrev", "unfoldable", "axiom", "pub"].contains(&word.text.as_str());
         let marks = item.iter().take_while(|word| is_mark(word)).count();
+        let public = item[..marks].iter().any(|mark| mark.is("pub"));
         let opens = item[..marks].iter().any(|mark| mark.is("abbrev") || mark.is("unfoldable"));
         let rest = &item[marks..];
         match rest.first().map_or("", |word| word.text.as_str()) {
             "use" => self.file.uses.push(Use::read(&after_use(&self.lines[at..end]))),
             "mod" | "infix" | "infixl" | "infixr" | "ruleset" | "" => (),
             "unfolding" => self.go_on(at, end, &[]),
-            "record" | "data" => self.add(Kind::Definition, at, end, rest),
+            "record" | "data" => self.add(Kind::Definition, public, at, end, rest),
             _ if marks == 0 && !is_signature(rest) => self.go_on(at, end, rest),
-            _ if opens => self.add(Kind::Definition, at, end, rest),
-            _ => self.add(Kind::Law, at, end, rest),
+            _ if opens => self.add(Kind::Definition, public, at, end, rest),
+            _ => self.add(Kind::Law, public, at, end, rest),
         }
         end
     }
@@ -106,7 +107,7 @@ impl Reader<'_> {
     }
 
     /// A declaration by its signature; a record or data type has its members behind `where`.
-    fn add(&mut self, kind: Kind, at: usize, end: usize, signature: &[Word]) {
+    fn add(&mut self, kind: Kind, public: bool, at: usize, end: usize, signature: &[Word]) {
         let is_data = signature[0].is("data");
         let name = if is_data || signature[0].is("record") { 1 } else { 0 };
         let place = signature.iter().position(|word| word.is("where")).unwrap_or(signature.len());
@@ -116,6 +117,7 @@ impl Reader<'_> {
         self.file.declarations.push(Declaration {
             name: signature[name].text.clone(),
             kind,
+            public,
             line: at + 1,
             lines: full_lines(&self.lines[self.comment.unwrap_or(at)..end]),
             statement,

@@ -1,7 +1,8 @@
 //! What is followed, counted and found in the wrong place: in the crates, and in a small tree.
 
+use danivomel_definitions::faults::faults;
 use danivomel_definitions::file::Kind;
-use danivomel_definitions::listing::{count, faults, list, Count};
+use danivomel_definitions::listing::{count, list, Count};
 use danivomel_definitions::origins::{entries, promised};
 use danivomel_definitions::reach::Reached;
 use danivomel_definitions::tree::Tree;
@@ -98,7 +99,8 @@ fn from_a_contract() {
     assert_eq!(names(&tree, &reached, Kind::Type), ["Answer"]);
     assert_eq!(names(&tree, &reached, Kind::Definition), ["twice", "Found", "told"]);
     assert_eq!(count(&tree, &reached, Kind::Definition), Count { declarations: 3, lines: 10, files: 1 });
-    assert!(faults(&tree, &reached).is_empty());
+    let apart = "crates/low/specs/Definitions.antt:20: Apart stands right in specs/, and nothing promised leads to it";
+    assert_eq!(faults(&tree, &reached), [apart]);
 }
 
 #[test]
@@ -107,7 +109,27 @@ fn from_a_law_by_its_statement() {
     let mut reached = Reached::default();
     reached.follow(&tree, &promised(&tree, "the `law` of `nothing`")).unwrap();
     assert_eq!(names(&tree, &reached, Kind::Definition), ["twice", "Found", "told", "Held"]);
-    assert_eq!(faults(&tree, &reached), ["crates/low/specs/Laws/Laws.antt:5: Held stands in Laws/"]);
+    assert_eq!(faults(&tree, &reached)[1..], ["crates/low/specs/Laws/Laws.antt:5: Held stands in Laws/"]);
+}
+
+#[test]
+fn one_name_twice() {
+    let mut tree = Tree::default();
+    tree.add("crates/low/specs/One.antt", "abbrev pub one : ℕ\none = 1\n");
+    tree.add("crates/high/specs/Laws/One.antt", "abbrev pub one : ℕ\none = 2\n\nabbrev two : ℕ\ntwo = 2\n");
+    tree.add("crates/high/specs/Laws/Two.antt", "abbrev two : ℕ\ntwo = 2\n\npub one : ℕ\none = 2\n");
+    let mut reached = Reached::default();
+    reached.follow(&tree, &[(0, 0)]).unwrap();
+    let expected = "crates/high/specs/Laws/One.antt:1: one has the name of crates/low/specs/One.antt:1";
+    assert_eq!(faults(&tree, &reached), [expected]);
+}
+
+#[test]
+fn count_as_quoted() {
+    let contracts = Count { declarations: 2, lines: 1000, files: 1 };
+    let all = Count { declarations: 3, lines: 12_034, files: 2 };
+    let sentence = "3 definitions, 12,034 lines in 2 files (2 of them, 1,000 lines, from the contracts of the entry points alone)";
+    assert_eq!(all.quoted(&contracts), sentence);
 }
 
 #[test]

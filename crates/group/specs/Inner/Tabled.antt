@@ -7,26 +7,27 @@ use lib.ListN.{length}
 use Rattle.model.specs.Plans.{hasPlan}
 use Rattle.model.specs.declared.Limits.{Limits}
 use Rattle.probe.specs.Inner.Tables as probed
-use Rattle.group.specs.Sound.{Sound, greatestCount}
+use Rattle.group.specs.Sound.{SoundRanges}
+use Rattle.model.specs.Shares.{mostUnits}
 
 -- a group with the table that its values are looked up in
 pub record Tabled (lows highs : List ℕ) (total : ℕ) (table : List ℕ) : Type 0 where
-  pub sound : probed.Sound lows highs total
-  pub held : probed.Table lows highs total table
+  pub sound : probed.SoundWithTotal lows highs total
+  pub held : probed.Breakpoints lows highs total table
 
 -- room to work in for a group of n members
-pub record Room (n : ℕ) (starts stops table : List ℕ) : Type 0 where
+pub record TableLists (n : ℕ) (starts stops table : List ℕ) : Type 0 where
   pub sizeStarts : length starts ≡ n
   pub sizeStops : length stops ≡ n
   pub sizeTable : 6 * (2 * n) + 6 ≤ length table
 
 -- arrays with such room for every group of n members that the checks let pass
-pub record Space (n : ℕ) (starts stops table : List ℕ) : Type 0 where
-  pub sizeStarts : n ≤ greatestCount → n ≤ length starts
-  pub sizeStops : n ≤ greatestCount → n ≤ length stops
-  pub sizeTable : n ≤ greatestCount → 6 * (2 * n) + 6 ≤ length table
+pub record TableRoom (n : ℕ) (starts stops table : List ℕ) : Type 0 where
+  pub sizeStarts : n ≤ mostUnits → n ≤ length starts
+  pub sizeStops : n ≤ mostUnits → n ≤ length stops
+  pub sizeTable : n ≤ mostUnits → 6 * (2 * n) + 6 ≤ length table
 
 -- a group of sound ranges that has a plan
 pub record HasPlan (lows highs : List ℕ) (total : ℕ) (limits : Limits) : Type 0 where
-  pub sound : Sound lows highs
+  pub sound : SoundRanges lows highs
   pub found : hasPlan lows highs total limits ≡ true

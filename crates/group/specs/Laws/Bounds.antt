@@ -5,14 +5,14 @@ use mathlib.Core.Path.{_≡_}
 use native.Mathlib.Nat.{mul-le-mul}
 use native.Mathlib.Omega.{arith}
 use lib.ListN.{length, getD}
-use Rattle.model.specs.Shares.{Within, greatestShare, sum, sumOf, greatestTotal}
+use Rattle.model.specs.Shares.{Within, greatestShare, sum, sumOf, greatestTotal, mostUnits}
 use Rattle.model.specs.Figures.{apart, deviation}
 use Rattle.model.specs.Levels.{clamp, growth}
 use Rattle.model.specs.Laws.Lists.{within-at, within-length, ranges-at}
 use Rattle.model.specs.Laws.Level.{growth-step, clamp-at-most}
 use Rattle.model.specs.Laws.Levelled.{within-sum-high}
 use Rattle.model.specs.Laws.Spread.{sumOf-bound}
-use Rattle.group.specs.Sound.{Sound, greatestCount}
+use Rattle.group.specs.Sound.{SoundRanges}
 use Rattle.group.specs.Laws.Sound.{highs-small}
 
 -- a share with the copy that it takes is at most the range's high
@@ -20,7 +20,7 @@ extra-at-most : (l h v left : ℕ) → l ≤ h → clamp l h v + min left (growt
 extra-at-most l h v left p = omega (arith, growth-step l h v p, clamp-at-most l h (suc v) p)
 
 -- member i's share with the copy that it takes is at most the greatest
-pub share-at-small : {lows highs : List ℕ} → Sound lows highs → (i v left base more : ℕ) → i < length lows
+pub share-at-small : {lows highs : List ℕ} → SoundRanges lows highs → (i v left base more : ℕ) → i < length lows
     → base ≡ clamp (getD lows i 0) (getD highs i 0) v → more ≡ min left (growth (getD lows i 0) (getD highs i 0) v)
     → base + more ≤ greatestShare
 share-at-small {lows} {highs} sound i v left base more h is-clamp is-growth =
@@ -28,7 +28,7 @@ share-at-small {lows} {highs} sound i v left base more h is-clamp is-growth =
     let most = extra-at-most (getD lows i 0) (getD highs i 0) v left (range .0) in
     omega arith
 
-module _ {lows highs xs : List ℕ} (sound : Sound lows highs) (within : Within lows highs xs) where
+module _ {lows highs xs : List ℕ} (sound : SoundRanges lows highs) (within : Within lows highs xs) where
   -- shares in the ranges are at most the greatest
   pub share-small : (i : ℕ) → i < length xs → getD xs i 0 ≤ greatestShare
   share-small i h = omega (arith, within-at within i h, ranges-at (sound .ranges) i (omega (arith, within-length within)))
@@ -38,7 +38,7 @@ module _ {lows highs xs : List ℕ} (sound : Sound lows highs) (within : Within 
   sum-small = omega (arith, within-sum-high within, highs-small sound)
 
   -- their squares add up to at most 256 times the greatest share's
-  pub squares-small : sumOf (λ x. x * x) xs ≤ greatestCount * (greatestShare * greatestShare)
+  pub squares-small : sumOf (λ x. x * x) xs ≤ mostUnits * (greatestShare * greatestShare)
   squares-small =
       omega (
         arith,
@@ -47,7 +47,7 @@ module _ {lows highs xs : List ℕ} (sound : Sound lows highs) (within : Within 
       )
 
   -- their deviation from a total is at most 256 times the greatest total
-  pub deviation-small : (total : ℕ) → total ≤ greatestTotal → deviation (length lows) total xs ≤ greatestCount * greatestTotal
+  pub deviation-small : (total : ℕ) → total ≤ greatestTotal → deviation (length lows) total xs ≤ mostUnits * greatestTotal
   unfolding deviation
   deviation-small total small =
       omega (

@@ -8,12 +8,12 @@ use native.Mathlib.Omega.{arith}
 use lib.Dec.{leb, eqb}
 use lib.ListN.{length, getD}
 use borrow.Author.Tests.{leb-true, le-leb, lt-ltb, eqb-true, eq-eqb}
-use Rattle.model.specs.Shares.{Ranges, greatestShare}
+use Rattle.model.specs.Shares.{Ranges, greatestShare, mostUnits}
 use Rattle.model.specs.Laws.Lists.{ranges-at, ranges-of}
 use Rattle.model.specs.Laws.Tests.{both, both-left, both-right, clash, refuted}
 use Rattle.model.specs.declared.Refusal.{Refusal}
 use Rattle.group.specs.Checks.{areShares, firstBeyond, firstCrossed, sized, refuseIf, checkLists}
-use Rattle.group.specs.Sound.{Sound, greatestCount}
+use Rattle.group.specs.Sound.{SoundRanges}
 use Rattle.group.specs.Laws.Sound.{sound}
 use Rattle.group.specs.declared.Check.{Check}
 use Rattle.group.specs.declared.Check.the-variants.{Passed, Failed}
@@ -30,7 +30,7 @@ sized-of count other room held =
       some = leb-true _ _ (both-left _ _ held);
       paired = eqb-true _ _ (both-left _ _ second);
       few = leb-true _ _ (both-left _ _ third);
-      fits = leb-true _ _ (both-right (leb count greatestCount) _ third);
+      fits = leb-true _ _ (both-right (leb count mostUnits) _ third);
     }
 
 pub sized-is : {count other room : ℕ} → Sized count other room → sized count other room ≡ true
@@ -116,7 +116,7 @@ module _ (lows highs : List ℕ) (room : ℕ) (amounts : Bool) where
 
 -- lists that pass the checks are sound, with room for the shares
 pub passed-sound : {lows highs : List ℕ} {room : ℕ} {amounts : Bool} → Finding lows highs room amounts Passed
-    → Sound lows highs × (length lows ≤ room)
+    → SoundRanges lows highs × (length lows ≤ room)
 passed-sound (Finding.passed fits within ranges) = (sound ranges (fits .few), fits .fits)
 
 -- a check that passes refuses nothing, and what comes after it passes

@@ -57,13 +57,13 @@ module _ {lows highs table : List ℕ} {total : ℕ} {limits : Limits} {i end sh
   room = omega (arith, share-reach .least, probes share (way .share-small) .rows 0 (omega arith) .under)
 
   -- the value moved into reach is in reach, and between the end and the share
-  pub record Moved (r : ℕ) : Type 0 where
+  pub record MovedIntoReach (r : ℕ) : Type 0 where
     pub nearest : Nearest test end share r
     pub inReach : InReach table last low high r total
     pub small : r ≤ greatestShare
 
   -- too little at the last row: the value rises until there is enough
-  short : {r : ℕ} → greatest end < total → r ≡ end + (total - greatest end) → Moved r
+  short : {r : ℕ} → greatest end < total → r ≡ end + (total - greatest end) → MovedIntoReach r
   short {r} less is =
       let before : end < share = by-contra _ _ (λ none. omega (arith, moves last (omega arith) share end (omega arith) (way .small), share-reach .greatest)) in
       let inside : r ≤ share = omega (arith, moves last (omega arith) end share (omega arith) (way .share-small), share-reach .greatest) in
@@ -81,7 +81,7 @@ module _ {lows highs table : List ℕ} {total : ℕ} {limits : Limits} {i end sh
       }
 
   -- too much at the first row: the value falls
-  long : {r : ℕ} → total < least end → r + (least end - total) ≡ end → Moved r
+  long : {r : ℕ} → total < least end → r + (least end - total) ≡ end → MovedIntoReach r
   long {r} more is =
       let after : share < end = by-contra _ _ (λ none. omega (arith, moves 0 (omega arith) end share (omega arith) (way .share-small), share-reach .least)) in
       let inside : share ≤ r = omega (arith, moves 0 (omega arith) share end (omega arith) (way .small), share-reach .least) in
@@ -98,7 +98,7 @@ module _ {lows highs table : List ℕ} {total : ℕ} {limits : Limits} {i end sh
         small = small;
       }
 
-  pub moved : {r : ℕ} → IntoReach table last low high end total r → Moved r
+  pub moved : {r : ℕ} → IntoReach table last low high end total r → MovedIntoReach r
   moved into =
       elim (decLt (greatest end) total) [
         | yes less ↦ short less (into .short less)

@@ -7,17 +7,17 @@ use mathlib.Core.List.{List}
 use mathlib.Core.Path.{_≡_, sym}
 use native.Mathlib.Omega.{arith}
 use lib.ListN.{length}
-use Rattle.model.specs.Shares.{Ranges, greatestShare, greatestTotal, sum}
+use Rattle.model.specs.Shares.{Ranges, greatestShare, greatestTotal, sum, mostUnits}
 use Rattle.model.specs.Levels.{totalAt, clamped, level, topped, remainder, levelled}
 use Rattle.model.specs.Plans.{hasShares}
 use Rattle.model.specs.Laws.Tests.{both, both-left, both-right}
 use Rattle.model.specs.Laws.Lists.{ranges-length, within-length}
 use Rattle.model.specs.Laws.Levelled.{levelled-adds, levelled-within}
 use Rattle.model.specs.Laws.Level.{totalAt-cons, totalAt-least, totalAt-greatest, clamp-at-most}
-use Rattle.group.specs.Sound.{greatestCount, Sound, HasShares}
+use Rattle.group.specs.Sound.{SoundRanges, HasShares}
 
 -- what makes ranges sound
-pub sound : {lows highs : List ℕ} → Ranges lows highs → length lows ≤ greatestCount → Sound lows highs
+pub sound : {lows highs : List ℕ} → Ranges lows highs → length lows ≤ mostUnits → SoundRanges lows highs
 sound ranges few = record { ranges = ranges; paired = ranges-length ranges; few = few }
 
 -- T(v) is at most n times the greatest share
@@ -27,7 +27,7 @@ totalAt-bound (Ranges.also {l} {h} {ls} {hs} p q r) v =
     rw (totalAt-cons l h ls hs v) (omega (arith, clamp-at-most l h v p, totalAt-bound r v))
 
 -- T(v), the sum of the lows and the sum of the highs are totals
-module _ {lows highs : List ℕ} (sound : Sound lows highs) where
+module _ {lows highs : List ℕ} (sound : SoundRanges lows highs) where
   pub totalAt-small : (v : ℕ) → totalAt lows highs v ≤ greatestTotal
   totalAt-small v = omega (arith, totalAt-bound (sound .ranges) v)
 
@@ -38,7 +38,7 @@ module _ {lows highs : List ℕ} (sound : Sound lows highs) where
   highs-small = rw (← totalAt-greatest (sound .ranges)) (totalAt-small greatestShare)
 
 -- where the test finds shares, they exist
-pub has-shares : {lows highs : List ℕ} → Sound lows highs → (total : ℕ) → hasShares lows highs total ≡ true → HasShares lows highs total
+pub has-shares : {lows highs : List ℕ} → SoundRanges lows highs → (total : ℕ) → hasShares lows highs total ≡ true → HasShares lows highs total
 has-shares {lows} {highs} s total exist =
     record { sound = s; low = leb-true _ _ (both-left _ _ exist); high = leb-true _ _ (both-right (leb (sum lows) total) _ exist) }
 
@@ -60,5 +60,5 @@ levelled-total {lows} {highs} {total} shared v left is-level is-remainder =
     (levelled-adds (shared .sound .ranges) total (shared .low) (shared .high))
 
 -- there is one to each member
-pub levelled-length : {lows highs : List ℕ} → Sound lows highs → (total : ℕ) → length (levelled lows highs total) ≡ length lows
+pub levelled-length : {lows highs : List ℕ} → SoundRanges lows highs → (total : ℕ) → length (levelled lows highs total) ≡ length lows
 levelled-length s total = sym (within-length (levelled-within (s .ranges) total) .0)

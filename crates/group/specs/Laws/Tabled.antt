@@ -7,7 +7,7 @@ use Rattle.group.specs.Sound.{HasShares}
 use Rattle.group.specs.Laws.Sound.{highs-small}
 
 -- a group with shares of the total has a small total
-pub probe-sound : {lows highs : List ℕ} {total : ℕ} → HasShares lows highs total → probed.Sound lows highs total
+pub probe-sound : {lows highs : List ℕ} {total : ℕ} → HasShares lows highs total → probed.SoundWithTotal lows highs total
 probe-sound shared = record {
   ranges = shared .sound .ranges;
   paired = shared .sound .paired;

@@ -62,8 +62,8 @@ storedAt flat at = record {
 }
 
 -- it lies whole in the list
-abbrev pub Whole : List ℕ → ℕ → Type 0
-Whole flat at = at + headLength + getD flat (at + 3) 0 ≤ length flat
+abbrev pub WholeAt : List ℕ → ℕ → Type 0
+WholeAt flat at = at + headLength + getD flat (at + 3) 0 ≤ length flat
 
 -- the group with its members
 abbrev pub groupIn : List ℕ → Stored → Group
@@ -81,7 +81,7 @@ groupsIn count flat = groupsFrom count 0 flat
 -- the list holds so many groups whole from an index on
 pub data HoldsFrom : ℕ → ℕ → List ℕ → Type 0 where
   none : {at : ℕ} {flat : List ℕ} → HoldsFrom 0 at flat
-  also : {count at : ℕ} {flat : List ℕ} → Whole flat at → HoldsFrom count (storedAt flat at .next) flat → HoldsFrom (suc count) at flat
+  also : {count at : ℕ} {flat : List ℕ} → WholeAt flat at → HoldsFrom count (storedAt flat at .next) flat → HoldsFrom (suc count) at flat
 
 -- it holds so many groups whole
 abbrev pub Holds : ℕ → List ℕ → Type 0

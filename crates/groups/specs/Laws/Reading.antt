@@ -11,7 +11,7 @@ use Rattle.model.specs.Groups.{Group}
 use Rattle.model.specs.declared.Limit.{Limit}
 use Rattle.model.specs.declared.Limit.the-variants.{Any, AtMost}
 use Rattle.groups.specs.declared.Stored.{Stored}
-use Rattle.groups.specs.Inner.Flat.{limitCode, limitOf, flatGroup, flatten, storedAt, Whole, groupIn, groupsFrom, groupsIn, HoldsFrom, Holds}
+use Rattle.groups.specs.Inner.Flat.{limitCode, limitOf, flatGroup, flatten, storedAt, WholeAt, groupIn, groupsFrom, groupsIn, HoldsFrom, Holds}
 
 -- a limit's number stands for the limit
 limit-code : (limit : Limit) → limitOf (limitCode limit) ≡ limit
@@ -65,7 +65,7 @@ module _ (before : List ℕ) (g : Group) (rest : List ℕ) where
   next-back = rw (count-back, length-append before (flatGroup g)) (omega arith)
 
   -- lies whole in the list
-  whole-back : Whole list at
+  whole-back : WholeAt list at
   whole-back = omega (arith, count-back, length-append before (flatGroup g ++ rest), length-append (g .members) rest)
 
   abbrev behind : List ℕ

@@ -7,7 +7,7 @@ use lib.ListN.{length, drop, drop-of-length-le}
 use lib.Seq.{drop-drop}
 use Rattle.model.specs.Groups.{Group}
 use Rattle.groups.specs.declared.Stored.{Stored}
-use Rattle.groups.specs.Inner.Flat.{storedAt, Whole, groupIn, groupsFrom, groupsIn, HoldsFrom, Holds}
+use Rattle.groups.specs.Inner.Flat.{storedAt, WholeAt, groupIn, groupsFrom, groupsIn, HoldsFrom, Holds}
 use Rattle.groups.specs.Laws.Reading.{groups-counted}
 
 module _ (flat : List ℕ) (count : ℕ) where
@@ -30,10 +30,10 @@ module _ (flat : List ℕ) (count : ℕ) where
   walk-end {passed = passed} walk end = drop-of-length-le groups {i = passed} (omega (arith, groups-counted count 0 flat))
 
   -- where some are left, the one at the index lies whole in the list
-  pub walk-whole : {at passed : ℕ} → Walk at passed → passed < count → Whole flat at
+  pub walk-whole : {at passed : ℕ} → Walk at passed → passed < count → WholeAt flat at
   walk-whole {at} {passed} walk some = whole (walk .left) (walk .counted) (walk .holds)
     where
-      whole : (left : ℕ) → passed + left ≡ count → HoldsFrom left at flat → Whole flat at
+      whole : (left : ℕ) → passed + left ≡ count → HoldsFrom left at flat → WholeAt flat at
       whole zero counted holds = absurd (omega arith)
       whole (suc left) counted (HoldsFrom.also lies holds) = lies
 

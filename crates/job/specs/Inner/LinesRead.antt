@@ -3,7 +3,7 @@ use Prim.Native.Nat.{ℕ}
 use mathlib.Core.List.{List}
 use Rattle.model.specs.declared.Limit.{Limit}
 use Rattle.text.specs.Parsed.{Parsed, parsed, failed}
-use Rattle.text.specs.Inner.Spots.{left}
+use Rattle.text.specs.Inner.Spots.{bytesFrom}
 use Rattle.job.specs.Form.{UnitLine}
 use Rattle.job.specs.declared.lines.UnitRead.{UnitRead}
 use Rattle.job.specs.declared.lines.UnitRead.the-variants as unit-read
@@ -19,25 +19,25 @@ use Rattle.job.specs.declared.lines.GroupRead.the-variants as group-read
 
 -- a unit line and the spot after it
 abbrev pub unitSeen : List ℕ → UnitRead → Parsed UnitLine
-unitSeen text (unit-read.Range low high spot) = parsed (record { low = low; high = high }) (left text spot)
+unitSeen text (unit-read.Range low high spot) = parsed (record { low = low; high = high }) (bytesFrom text spot)
 unitSeen text unit-read.Missing = failed
 
 -- a limit and the spot after it
 abbrev pub limitSeen : List ℕ → LimitRead → Parsed Limit
-limitSeen text (limit-read.Is limit spot) = parsed limit (left text spot)
+limitSeen text (limit-read.Is limit spot) = parsed limit (bytesFrom text spot)
 limitSeen text limit-read.Missing = failed
 
 -- a group line's head and the spot after it
 abbrev pub headSeen : List ℕ → HeadRead → Parsed Head
-headSeen text (head-read.Is head spot) = parsed head (left text spot)
+headSeen text (head-read.Is head spot) = parsed head (bytesFrom text spot)
 headSeen text head-read.Missing = failed
 
 -- the members and the spot after them
 abbrev pub membersSeen : List ℕ → List ℕ → Members → Parsed Tally
-membersSeen text flat m = parsed (record { count = m .count; within = m .within; flat = flat }) (left text (m .next))
+membersSeen text flat m = parsed (record { count = m .count; within = m .within; flat = flat }) (bytesFrom text (m .next))
 
 -- a group line and the spot after it
 abbrev pub groupSeen : List ℕ → List ℕ → GroupRead → Parsed GroupTally
 groupSeen text flat (group-read.Is head m) =
-    parsed (record { head = head; tally = record { count = m .count; within = m .within; flat = flat } }) (left text (m .next))
+    parsed (record { head = head; tally = record { count = m .count; within = m .within; flat = flat } }) (bytesFrom text (m .next))
 groupSeen text flat group-read.Missing = failed

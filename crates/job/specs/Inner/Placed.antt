@@ -7,8 +7,9 @@ use lib.ListN.{length, take, drop}
 use Rattle.job.specs.declared.lines.Head.{Head}
 use Rattle.job.specs.declared.lines.Members.{Members}
 use Rattle.job.specs.declared.steps.Progress.{Progress}
-use Rattle.job.specs.Below.{AllBelow}
-use Rattle.job.specs.Job.{mostUnits, unless, first, headVerdict, distinct}
+use Rattle.job.specs.Inner.Below.{AllBelow}
+use Rattle.job.specs.Job.{unless, firstRefusal, headVerdict, distinct}
+use Rattle.model.specs.Shares.{mostUnits}
 
 -- the refusal of its head, 0 where there is none
 abbrev pub headNumber : Progress → Head → Members → ℕ
@@ -17,7 +18,7 @@ headNumber p head m = headVerdict (p .groups) (p .memberships) (head .total) (he
 -- and with the refusals of its members
 unfoldable pub groupNumber : Progress → Head → Members → List ℕ → ℕ → ℕ
 groupNumber p head m flat from =
-    first (headNumber p head m) (unless (m .within) 8 (unless (distinct (take (m .count) (drop from flat))) 9 0))
+    firstRefusal (headNumber p head m) (unless (m .within) 8 (unless (distinct (take (m .count) (drop from flat))) 9 0))
 
 -- where its head has no refusal its members lie in the list, and those that are unit numbers are below the most units
 pub record Placed (p : Progress) (head : Head) (m : Members) (flat : List ℕ) (from : ℕ) : Type 0 where

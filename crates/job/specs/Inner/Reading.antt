@@ -5,12 +5,13 @@ use mathlib.Core.Path.{_≡_}
 use lib.Dec.{eqb}
 use lib.ListN.{length, drop}
 use Rattle.model.specs.Shares.{pick}
-use Rattle.job.specs.Job.{Job, accepted, refusal, readJob}
+use Rattle.job.specs.Job.{Job, accepted, readJob}
 use Rattle.groups.specs.Inner.Flat.{flatten}
 use Rattle.job.specs.declared.steps.Progress.{Progress}
 use Rattle.job.specs.declared.Reading.{Reading}
 use Rattle.job.specs.declared.Reading.the-variants.{Read, Refused}
-use Rattle.job.specs.Reading.{readingOf, Filled}
+use Rattle.job.specs.Reading.{readingOf, ReadInto}
+use Rattle.model.specs.Refusals.{refusal}
 
 -- the answer to a text whose lines are all taken: 01: "10 no unit line, place 0"
 unfoldable pub countsOf : Progress → Reading
@@ -41,4 +42,4 @@ pub record Fronts (least greatest : List ℕ) (units groups : ℕ) (job : Job) :
 -- filling a table from such lists, whatever the text that was read
 abbrev pub FilledBy : List ℕ → List ℕ → ℕ → ℕ → List ℕ → List ℕ → List ℕ → List ℕ → Reading → Type 0
 FilledBy least greatest units groups lows₀ highs₀ lows highs r =
-    (text : List ℕ) (job : Job) → readJob text ≡ accepted job → Fronts least greatest units groups job → Filled text lows₀ highs₀ lows highs r
+    (text : List ℕ) (job : Job) → readJob text ≡ accepted job → Fronts least greatest units groups job → ReadInto text lows₀ highs₀ lows highs r

@@ -8,9 +8,10 @@ use Rattle.text.specs.Inner.Numbers.{held}
 use Rattle.job.specs.Form.{UnitLine, Line, unit, group, groupAs, line}
 use Rattle.groups.specs.Memberships.{memberships}
 use Rattle.groups.specs.Inner.Flat.{flatten, flatLength}
-use Rattle.job.specs.Job.{Job, mostUnits, mostGroups, mostMemberships, Stepped, next, stop, stepOn}
+use Rattle.job.specs.Job.{Job, mostGroups, mostMemberships, LineStep, next, stop, stepOn}
 use Rattle.job.specs.declared.steps.Progress.{Progress}
 use Rattle.job.specs.declared.steps.Taken.{Taken}
+use Rattle.model.specs.Shares.{mostUnits}
 use Rattle.job.specs.declared.steps.Taken.the-variants as taken
 
 -- the counts are within 01's limits
@@ -29,7 +30,7 @@ pub record Lists : Type 0 where
   pub flat : List ℕ
 
 -- the counts are a job's, and the lists begin with what the job holds
-pub record Holds (job : Job) (p : Progress) (l : Lists) : Type 0 where
+pub record ReadSoFar (job : Job) (p : Progress) (l : Lists) : Type 0 where
   pub bounded : Bounded p
   pub units : length (job .lows) ≡ p .units
   pub pairs : length (job .highs) ≡ p .units
@@ -40,8 +41,8 @@ pub record Holds (job : Job) (p : Progress) (l : Lists) : Type 0 where
   pub flat : l .flat ≡ flatten (job .groups) ++ drop (flatLength (p .groups) (p .memberships)) (l .flat₀)
 
 -- an answer says what a line did
-abbrev pub Answers : List ℕ → Lists → Taken → Stepped → Type 0
-Answers text l (taken.Line p spot) stepped = (job : Job) × (stepped ≡ next job (drop (spot .at) text)) × Holds job p l
+abbrev pub Answers : List ℕ → Lists → Taken → LineStep → Type 0
+Answers text l (taken.Line p spot) stepped = (job : Job) × (stepped ≡ next job (drop (spot .at) text)) × ReadSoFar job p l
 Answers text l (taken.Refused r) stepped = stepped ≡ stop r
 
 -- the lists, given one by one
@@ -53,19 +54,19 @@ lists lows₀ highs₀ flat₀ lows highs flat =
 abbrev pub UnitTaken : Progress → UnitLine → ℕ → List ℕ → List ℕ → List ℕ → List ℕ → Taken → Type 0
 UnitTaken p u at lows highs lows′ highs′ r =
     (text : List ℕ) (job : Job) (lows₀ highs₀ flat₀ flat : List ℕ)
-    → Holds job p (lists lows₀ highs₀ flat₀ lows highs flat)
+    → ReadSoFar job p (lists lows₀ highs₀ flat₀ lows highs flat)
     → Answers text (lists lows₀ highs₀ flat₀ lows′ highs′ flat) r (stepOn job (parsed (unit u) (drop at text)))
 
 -- taking a group line
 abbrev pub GroupTaken : List ℕ → Progress → ℕ → List ℕ → List ℕ → Taken → Type 0
 GroupTaken text p at flat flat′ r =
     (job : Job) (lows₀ highs₀ flat₀ lows highs : List ℕ)
-    → Holds job p (lists lows₀ highs₀ flat₀ lows highs flat)
+    → ReadSoFar job p (lists lows₀ highs₀ flat₀ lows highs flat)
     → Answers text (lists lows₀ highs₀ flat₀ lows highs flat′) r (stepOn job (mapped group (groupAs held (drop at text))))
 
 -- taking a line
 abbrev pub LineTaken : List ℕ → Progress → ℕ → List ℕ → List ℕ → List ℕ → List ℕ → List ℕ → List ℕ → Taken → Type 0
 LineTaken text p at lows highs flat lows′ highs′ flat′ r =
     (job : Job) (lows₀ highs₀ flat₀ : List ℕ)
-    → Holds job p (lists lows₀ highs₀ flat₀ lows highs flat)
+    → ReadSoFar job p (lists lows₀ highs₀ flat₀ lows highs flat)
     → Answers text (lists lows₀ highs₀ flat₀ lows′ highs′ flat′) r (stepOn job (line (drop at text)))

@@ -10,7 +10,7 @@ use lib.ListN.{length, length-append}
 use Rattle.model.specs.Shares.{pick}
 use Rattle.text.specs.Parsed.{Parsed, parsed, failed}
 use Rattle.job.specs.Form.{Line, printLine, line}
-use Rattle.job.specs.Job.{Job, mostBytes, verdict, add, placeOf, judged, next, stepOn, Outcome, accepted, refused, refusal, onward, readLines}
+use Rattle.job.specs.Job.{Job, mostBytes, verdict, add, placeOf, judged, next, stepOn, JobOrRefusal, accepted, refused, onward, readLines}
 use Rattle.job.specs.Job.{noLines, someUnit, readJob}
 use Rattle.job.specs.Laws.Reading.{line-long, read-next, read-end}
 use Rattle.job.specs.Laws.Sound.{accepted-sound}
@@ -18,9 +18,10 @@ use Rattle.job.specs.Laws.Spelling.{line-printed, printed-line}
 use Rattle.job.specs.TextLines.{linesOf}
 use Rattle.job.specs.Laws.TextLines.{lines-next, printed-one}
 use Rattle.job.specs.Accepting.{Takes, Accepts}
+use Rattle.model.specs.Refusals.{refusal}
 
 -- where reading goes on after a line, the line has no refusal
-judged-on : (number : ℕ) (job : Job) (s : List ℕ) (place : ℕ) (k : Job → List ℕ → Outcome) (final : Job)
+judged-on : (number : ℕ) (job : Job) (s : List ℕ) (place : ℕ) (k : Job → List ℕ → JobOrRefusal) (final : Job)
     → onward k (judged number job s place) ≡ accepted final → (number ≡ 0) × (k job s ≡ accepted final)
 unfolding onward
 judged-on zero job s place k final h = (refl, h)
@@ -58,7 +59,7 @@ takes-reads n {job} {final} (Takes.also {lines = lines} l is good rest) short =
     rw is (reads ∙ takes-reads m rest fits)
 
 -- what is accepted with a unit line is accepted
-some-unit-of : (o : Outcome) (found : Job) → someUnit o ≡ accepted found → o ≡ accepted found
+some-unit-of : (o : JobOrRefusal) (found : Job) → someUnit o ≡ accepted found → o ≡ accepted found
 unfolding someUnit
 some-unit-of (accepted job) found h = by-count (eqb (length (job .lows)) 0) h
   where

@@ -12,8 +12,8 @@ use lib.ListN.{length, getD, set, drop, replicate, length-set, length-replicate,
 use native.Mathlib.Numerals.{add-one}
 use lib.Seq.{getD-set-same, getD-set-other, drop-cons}
 use Rattle.model.specs.Laws.Tests.{both-left, both-right, clash, either-right, and-exchanged, and-regrouped}
-use Rattle.job.specs.Job.{named, allNamed, holds, distinct, memberOf}
-use Rattle.job.specs.Below.{AllBelow}
+use Rattle.job.specs.Job.{named, allNamed, contains, distinct, memberOf}
+use Rattle.job.specs.Inner.Below.{AllBelow}
 use Rattle.job.specs.Inner.Distinct.{freshBy}
 
 -- none is marked
@@ -22,15 +22,15 @@ unmarked marks [] = true
 unmarked marks (x ∷ xs) = eqb (getD marks x 0) 0 && unmarked marks xs
 
 -- marking one more number
-marked : (marks xs : List ℕ) (x : ℕ) → x < length marks → unmarked (set marks x 1) xs ≡ not (holds x xs) && unmarked marks xs
-unfolding unmarked holds
+marked : (marks xs : List ℕ) (x : ℕ) → x < length marks → unmarked (set marks x 1) xs ≡ not (contains x xs) && unmarked marks xs
+unfolding unmarked contains
 marked marks [] x h = refl
 marked marks (y ∷ ys) x h =
     elim (ℕ-discrete x y) [
       | yes p ↦ rw (← p, getD-set-same marks x 1 0 h, eq-eqb x x refl)
       | no p ↦
           rw (getD-set-other marks x y 1 0 (λ e. p (sym e)), ne-eqb x y p, marked marks ys x h)
-          (and-exchanged (eqb (getD marks y 0) 0) (not (holds x ys)) (unmarked marks ys))
+          (and-exchanged (eqb (getD marks y 0) 0) (not (contains x ys)) (unmarked marks ys))
     ]
 
 fresh-distinct : (marks xs : List ℕ) → AllBelow (length marks) xs → freshBy marks xs ≡ unmarked marks xs && distinct xs
@@ -38,7 +38,7 @@ unfolding freshBy unmarked distinct AllBelow
 fresh-distinct marks [] b = refl
 fresh-distinct marks (x ∷ xs) b =
     rw (fresh-distinct (set marks x 1) xs (rw (length-set marks x 1) (b .1)), marked marks xs x (b .0))
-    (and-regrouped (eqb (getD marks x 0) 0) (not (holds x xs)) (unmarked marks xs) (distinct xs))
+    (and-regrouped (eqb (getD marks x 0) 0) (not (contains x xs)) (unmarked marks xs) (distinct xs))
 
 no-marks : (n : ℕ) (xs : List ℕ) → AllBelow n xs → unmarked (replicate n 0) xs ≡ true
 unfolding unmarked AllBelow
@@ -49,8 +49,8 @@ no-marks n (x ∷ xs) b = rw (getD-replicate {A = ℕ} n x 0 0 (b .0), no-marks 
 pub fresh-is-distinct : (n : ℕ) (xs : List ℕ) → AllBelow n xs → freshBy (replicate n 0) xs ≡ distinct xs
 fresh-is-distinct n xs b = fresh-distinct (replicate n 0) xs (rw (length-replicate {A = ℕ} n 0) b) ∙ rw (no-marks n xs b)
 
-holds-members : (units m : ℕ) (ms : List ℕ) → 1 ≤ m → allNamed units ms ≡ true → holds (memberOf m) (map memberOf ms) ≡ holds m ms
-unfolding holds allNamed
+holds-members : (units m : ℕ) (ms : List ℕ) → 1 ≤ m → allNamed units ms ≡ true → contains (memberOf m) (map memberOf ms) ≡ contains m ms
+unfolding contains allNamed
 holds-members units m [] l h = refl
 holds-members units m (k ∷ ks) l h =
     let n = leb-true 1 k (both-left (leb 1 k) (leb k units) (both-left (named units k) (allNamed units ks) h)) in
@@ -96,8 +96,8 @@ unfolding freshBy
 fresh-end marks = refl
 
 -- a number at a place of a list is found there
-found-at : (x : ℕ) (xs : List ℕ) (k : ℕ) → k < length xs → x ≡ getD xs k 0 → holds x xs ≡ true
-unfolding holds
+found-at : (x : ℕ) (xs : List ℕ) (k : ℕ) → k < length xs → x ≡ getD xs k 0 → contains x xs ≡ true
+unfolding contains
 found-at x [] k h e = absurd (omega arith)
 found-at x (y ∷ ys) zero h e = rw (eq-eqb x y e)
 found-at x (y ∷ ys) (suc k) h e = either-right (eqb x y) (found-at x ys k (le-of-suc-le-suc h) e)
@@ -108,8 +108,8 @@ unfolding distinct
 distinct-at [] held j k p q e = absurd (omega arith)
 distinct-at (x ∷ xs) held zero zero p q e = refl
 distinct-at (x ∷ xs) held zero (suc k) p q e =
-    absurd (clash (found-at x xs k (le-of-suc-le-suc q) e) (not-true (holds x xs) (both-left _ _ held)))
+    absurd (clash (found-at x xs k (le-of-suc-le-suc q) e) (not-true (contains x xs) (both-left _ _ held)))
 distinct-at (x ∷ xs) held (suc j) zero p q e =
-    absurd (clash (found-at x xs j (le-of-suc-le-suc p) (sym e)) (not-true (holds x xs) (both-left _ _ held)))
+    absurd (clash (found-at x xs j (le-of-suc-le-suc p) (sym e)) (not-true (contains x xs) (both-left _ _ held)))
 distinct-at (x ∷ xs) held (suc j) (suc k) p q e =
-    omega (arith, distinct-at xs (both-right (not (holds x xs)) _ held) j k (le-of-suc-le-suc p) (le-of-suc-le-suc q) e)
+    omega (arith, distinct-at xs (both-right (not (contains x xs)) _ held) j k (le-of-suc-le-suc p) (le-of-suc-le-suc q) e)

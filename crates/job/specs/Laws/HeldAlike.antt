@@ -22,7 +22,7 @@ use Rattle.job.specs.Form.{UnitLine, GroupLine, Line, unit, group, unitO
 use Rattle.job.specs.Form.{spreadOpening, membersOpening, groupEnding, anyWord}
 use Rattle.job.specs.Form.{numberAs, limitAs, unitAs, membersAs, headAs, grouped, groupAs, lineAs, line}
 use Rattle.groups.specs.Memberships.{memberships}
-use Rattle.job.specs.Job.{Job, unitVerdict, headVerdict, membersVerdict, verdict, named, allNamed, add, stepOn, judged, unless, distinct, first}
+use Rattle.job.specs.Job.{Job, unitVerdict, headVerdict, membersVerdict, verdict, named, allNamed, add, stepOn, judged, unless, distinct, firstRefusal}
 use Rattle.model.specs.Laws.Tests.{both-left, both-right}
 use Rattle.job.specs.Laws.Verdicts.{unit-good, head-good, members-good, first-zero}
 

@@ -10,11 +10,12 @@ use Rattle.groups.specs.Inner.Flat.{headLength, flatLength, mostFlat}
 use Rattle.job.specs.declared.lines.Head.{Head}
 use Rattle.job.specs.declared.lines.Members.{Members}
 use Rattle.job.specs.declared.steps.Progress.{Progress}
-use Rattle.job.specs.Job.{mostUnits, unless, first, headVerdict, membersVerdict, allNamed, distinct, memberOf}
+use Rattle.job.specs.Job.{unless, firstRefusal, headVerdict, membersVerdict, allNamed, distinct, memberOf}
 use Rattle.job.specs.Inner.Placed.{headNumber, groupNumber, Placed}
 use Rattle.job.specs.Laws.Distinct.{distinct-members, members-below}
 use Rattle.job.specs.Laws.Tally.{GroupFacts, numbersOf}
 use Rattle.job.specs.Laws.Verdicts.{head-good}
+use Rattle.model.specs.Shares.{mostUnits}
 
 -- where the members of the next group line begin
 abbrev pub membersFrom : Progress → ℕ
@@ -32,7 +33,7 @@ part-of-sets d vs i h =
     rw (sets-eq vs d i h, append-assoc, drop-at (take i d) (vs ++ drop (i + length vs) d) i (length-take-le i d (omega arith)))
     (take-at vs _ (length vs) refl)
 
-first-alike : (a : ℕ) {b c : ℕ} → (a ≡ 0 → b ≡ c) → first a b ≡ first a c
+first-alike : (a : ℕ) {b c : ℕ} → (a ≡ 0 → b ≡ c) → firstRefusal a b ≡ firstRefusal a c
 first-alike zero h = h refl
 first-alike (suc a) h = refl
 
@@ -62,7 +63,7 @@ module _ (p : Progress) (head : Head) (m : Members) {flat flat′ s r : List ℕ
 
   -- the verdict on what is stored is the verdict on the line
   pub placed-number : groupNumber p head m flat′ (membersFrom p)
-      ≡ first (headVerdict (p .groups) (p .memberships) (f .line .total) (f .line .limits) (length (numbersOf (f .line))))
+      ≡ firstRefusal (headVerdict (p .groups) (p .memberships) (f .line .total) (f .line .limits) (length (numbersOf (f .line))))
       (membersVerdict (p .units) (numbersOf (f .line)))
   unfolding groupNumber
   placed-number =

@@ -10,11 +10,12 @@ use Rattle.model.specs.declared.Refusal.{Refusal}
 use Rattle.text.specs.Parsed.{Parsed, parsed, failed}
 use Rattle.job.specs.Form.{Line, unit, group, printLine, line}
 use Rattle.job.specs.Laws.Spelling.{printed-line}
-use Rattle.job.specs.Job.{Job, next, stop, stepOn, verdict, judged, add, placeOf, Outcome, accepted, refused, refusal, onward, readLines}
+use Rattle.job.specs.Job.{Job, next, stop, stepOn, verdict, judged, add, placeOf, JobOrRefusal, accepted, refused, onward, readLines}
 use Rattle.job.specs.Job.{readJob}
 use Rattle.job.specs.declared.Reading.the-variants.{Read, Refused}
 use Rattle.job.specs.Inner.Reading.{Fronts}
-use Rattle.job.specs.Reading.{readingOf, fitTable, readTable, Filled}
+use Rattle.job.specs.Reading.{readingOf, fitTable, readTable, ReadInto}
+use Rattle.model.specs.Refusals.{refusal}
 
 -- a line has at least one byte
 pub line-long : (l : Line) → 0 < length (printLine l)
@@ -60,14 +61,14 @@ read-end (suc n) job = refl
 
 -- a text refused leaves the table
 pub filled-refused : (text lows highs : List ℕ) (r : Refusal) → readTable text (length lows) (length highs) ≡ refused r
-    → Filled text lows highs lows highs (Refused r)
+    → ReadInto text lows highs lows highs (Refused r)
 filled-refused text lows highs r e = record { answer = rw e; lows-are = rw e; highs-are = rw e }
 
 -- a text accepted fills it from the front of the lists that hold the job
 pub filled-accepted : (text lows₀ highs₀ : List ℕ) {lows highs least greatest : List ℕ} {job : Job} {units groups : ℕ}
     → readTable text (length lows₀) (length highs₀) ≡ accepted job → Fronts least greatest units groups job
     → lows ≡ take units least ++ drop units lows₀ → highs ≡ take units greatest ++ drop units highs₀
-    → Filled text lows₀ highs₀ lows highs (Read units groups)
+    → ReadInto text lows₀ highs₀ lows highs (Read units groups)
 filled-accepted text lows₀ highs₀ {job = job} {units = units} e f a b =
     record {
       answer = rw (e, f .units-are, f .groups-are);
@@ -84,13 +85,13 @@ fronts-long {job = job} f = (
 )
 
 -- the outcome behind an answer
-pub accepted-by : (o : Outcome) (units groups : ℕ) → Read units groups ≡ readingOf o
+pub accepted-by : (o : JobOrRefusal) (units groups : ℕ) → Read units groups ≡ readingOf o
     → (job : Job) × (o ≡ accepted job) × (length (job .lows) ≡ units) × (length (job .groups) ≡ groups)
 accepted-by (accepted job) units groups h = (job, refl, cc, cc)
 accepted-by (refused r) units groups h = absurd (let z : _≡_ {A = ℕ} 0 1 = cc in omega arith)
 
 -- the refusal behind an answer
-pub refused-by : (o : Outcome) (r : Refusal) → Refused r ≡ readingOf o → o ≡ refused r
+pub refused-by : (o : JobOrRefusal) (r : Refusal) → Refused r ≡ readingOf o → o ≡ refused r
 refused-by (accepted job) r h = absurd (let z : _≡_ {A = ℕ} 0 1 = cc in omega arith)
 refused-by (refused q) r h = cc
 

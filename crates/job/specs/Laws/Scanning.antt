@@ -11,20 +11,21 @@ use Rattle.job.specs.Form.{line}
 use Rattle.groups.specs.Memberships.{memberships}
 use Rattle.groups.specs.Inner.Flat.{flatten}
 use Rattle.groups.specs.Laws.Storing.{length-flatten}
-use Rattle.job.specs.Job.{Job, mostBytes, noLines, stop, stepOn, Outcome, accepted, refused, refusal, readLines, someUnit, readJob}
-use Rattle.job.specs.Inner.Steps.{lists, Holds, Answers}
+use Rattle.job.specs.Job.{Job, mostBytes, noLines, stop, stepOn, JobOrRefusal, accepted, refused, readLines, someUnit, readJob}
+use Rattle.job.specs.Inner.Steps.{lists, ReadSoFar, Answers}
 use Rattle.job.specs.declared.steps.Taken.the-variants as taken
 use Rattle.text.specs.declared.Spot.{Spot}
 use Rattle.job.specs.Inner.Reading.{Scanned, countsOf}
 use Rattle.job.specs.Laws.Reading.{read-next, read-stop, read-end}
 use Rattle.job.specs.declared.steps.Progress.{Progress}
+use Rattle.model.specs.Refusals.{refusal}
 use Rattle.job.specs.declared.Reading.the-variants.{Read, Refused}
 
 -- at a spot before a line: a job is held, and the lines from there on are those of the text after the job's
 pub record Going (text lows₀ highs₀ flat₀ lows highs flat : List ℕ) (at : ℕ) (p : Progress) : Type 0 where
   pub job : Job
   pub lines : ℕ
-  pub holds : Holds job p (lists lows₀ highs₀ flat₀ lows highs flat)
+  pub holds : ReadSoFar job p (lists lows₀ highs₀ flat₀ lows highs flat)
   pub enough : length (drop at text) ≤ lines
   pub same : readLines lines job (drop at text) ≡ readLines (length text) noLines text
   pub lows-long : length lows ≡ length lows₀
@@ -61,7 +62,7 @@ pub left : (text : List ℕ) (at : ℕ) → at < length text → 0 < length (dro
 left text at h = rw length-drop (omega arith)
 
 module _ (text : List ℕ) (short : length text ≤ mostBytes) where
-  by-lines : (o : Outcome) → readLines (length text) noLines text ≡ o → readJob text ≡ someUnit o
+  by-lines : (o : JobOrRefusal) → readLines (length text) noLines text ≡ o → readJob text ≡ someUnit o
   unfolding readJob
   by-lines o e = rw (le-leb (length text) mostBytes short, e)
 
@@ -90,7 +91,7 @@ pub done : (text : List ℕ) (at : ℕ) (job : Job) (n : ℕ) → length text �
     → readLines (length text) noLines text ≡ accepted job
 done text at job n h e = sym e ∙ ap (readLines n job) (drop-of-length-le text h) ∙ read-end n job
 
-never : {job : Job} {r : Refusal} {o : Outcome} → o ≡ refused r → o ≡ accepted job → ⊥
+never : {job : Job} {r : Refusal} {o : JobOrRefusal} → o ≡ refused r → o ≡ accepted job → ⊥
 never e f = let z : _≡_ {A = ℕ} 0 1 = cc in omega arith
 
 module _ (text lows₀ highs₀ flat₀ lows highs flat : List ℕ) where
@@ -105,7 +106,7 @@ module _ (text lows₀ highs₀ flat₀ lows highs flat : List ℕ) where
       }
 
   -- an accepted text is held in the lists
-  pub scanned-accepted : (job : Job) (p : Progress) → readJob text ≡ accepted job → Holds job p (lists lows₀ highs₀ flat₀ lows highs flat)
+  pub scanned-accepted : (job : Job) (p : Progress) → readJob text ≡ accepted job → ReadSoFar job p (lists lows₀ highs₀ flat₀ lows highs flat)
       → Scanned text lows₀ highs₀ flat₀ lows highs flat (Read (p .units) (p .groups))
   scanned-accepted job p e holds =
       let held : (k : Job) → readJob text ≡ accepted k → job ≡ k = λ k f. cc in

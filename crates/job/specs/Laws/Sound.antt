@@ -14,11 +14,12 @@ use Rattle.text.specs.Parsed.{Parsed, parsed, failed}
 use Rattle.job.specs.Form.{Line, unit, group, line}
 use Rattle.groups.specs.Memberships.{memberships}
 use Rattle.groups.specs.Laws.Storing.{memberships-snoc}
-use Rattle.job.specs.Job.{Job, mostBytes, groupOf, verdict, add, placeOf, judged, Stepped, next, stop, stepOn, Outcome, accepted, refused}
-use Rattle.job.specs.Job.{refusal, onward, readLines, noLines, someUnit, readJob}
+use Rattle.job.specs.Job.{Job, mostBytes, groupOf, verdict, add, placeOf, judged, LineStep, next, stop, stepOn, JobOrRefusal, accepted, refused}
+use Rattle.job.specs.Job.{onward, readLines, noLines, someUnit, readJob}
 use Rattle.job.specs.Laws.Distinct.{distinct-members, members-below, below-at, distinct-at}
 use Rattle.job.specs.Laws.Verdicts.{unit-good, first-zero, head-good, members-good}
-use Rattle.job.specs.Sound.{AcceptedGroup, none, also, AcceptedGroups, Built, Sound}
+use Rattle.job.specs.Sound.{AcceptedGroup, none, also, AcceptedGroups, Built, SoundJob}
+use Rattle.model.specs.Refusals.{refusal}
 
 ranges-snoc : {ls hs : List ℕ} (l h : ℕ) → Ranges ls hs → l ≤ h → h ≤ greatestShare → Ranges (ls ++ l ∷ []) (hs ++ h ∷ [])
 ranges-snoc l h no-ranges p q = and-range p q no-ranges
@@ -85,12 +86,12 @@ built-lines (suc n) job [] k b h = let e : job ≡ k = cc in rw (← e) b
 built-lines (suc n) job (c ∷ s) k b h =
     by-step (stepOn job (line (c ∷ s))) (λ j r e f. built-lines n j r k (built-step job (line (c ∷ s)) j r b e) f) refl h
   where
-    by-step : (t : Stepped) → ((j : Job) (r : List ℕ) → stepOn job (line (c ∷ s)) ≡ next j r → readLines n j r ≡ accepted k → Built k)
+    by-step : (t : LineStep) → ((j : Job) (r : List ℕ) → stepOn job (line (c ∷ s)) ≡ next j r → readLines n j r ≡ accepted k → Built k)
         → stepOn job (line (c ∷ s)) ≡ t → onward (λ j r. readLines n j r) t ≡ accepted k → Built k
     by-step (next j r) again e f = again j r e f
     by-step (stop r) again e f = absurd (let z : _≡_ {A = ℕ} 0 1 = cc in omega arith)
 
-sound-unit : (o : Outcome) (k : Job) → ((j : Job) → o ≡ accepted j → Built j) → someUnit o ≡ accepted k → Sound k
+sound-unit : (o : JobOrRefusal) (k : Job) → ((j : Job) → o ≡ accepted j → Built j) → someUnit o ≡ accepted k → SoundJob k
 unfolding someUnit
 sound-unit (accepted job) k b h =
     elim (ℕ-discrete (length (job .lows)) 0) [
@@ -104,7 +105,7 @@ sound-unit (accepted job) k b h =
 sound-unit (refused r) k b h = absurd (let z : _≡_ {A = ℕ} 0 1 = cc in omega arith)
 
 -- an accepted job is sound
-pub accepted-sound : (text : List ℕ) (job : Job) → readJob text ≡ accepted job → Sound job
+pub accepted-sound : (text : List ℕ) (job : Job) → readJob text ≡ accepted job → SoundJob job
 unfolding readJob memberships
 accepted-sound text job h = by-length (leb (length text) mostBytes) h
   where
@@ -112,6 +113,6 @@ accepted-sound text job h = by-length (leb (length text) mostBytes) h
     start =
         record { ranges = no-ranges; few-units = omega arith; few-groups = omega arith; few-memberships = omega arith; groups-sound = none }
 
-    by-length : (t : Bool) → pick t (someUnit (readLines (length text) noLines text)) (refused (refusal 2 0)) ≡ accepted job → Sound job
+    by-length : (t : Bool) → pick t (someUnit (readLines (length text) noLines text)) (refused (refusal 2 0)) ≡ accepted job → SoundJob job
     by-length true e = sound-unit (readLines (length text) noLines text) job (λ j f. built-lines (length text) noLines text j start f) e
     by-length false e = absurd (let z : _≡_ {A = ℕ} 0 1 = cc in omega arith)

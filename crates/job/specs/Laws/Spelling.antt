@@ -10,7 +10,7 @@ use Rattle.model.specs.declared.Limit.the-variants.{Any, AtMost}
 use Rattle.text.specs.Parsed.{parsed, failed, andThen, mapped, orElse, word}
 use Rattle.text.specs.Laws.Parsed.{then-parsed, mapped-parsed, either-parsed, word-parsed, word-own}
 use Rattle.text.specs.Numbers.{numberAfter, printNumber}
-use Rattle.text.specs.Laws.Printed.{Ends, number-printed, printed-number, number-not-word}
+use Rattle.text.specs.Laws.Printed.{NoDigitNext, number-printed, printed-number, number-not-word}
 use Rattle.job.specs.declared.lines.Head.{Head}
 use Rattle.job.specs.Form.{UnitLine, GroupLine, Line, unit, group, unitOpening, unitEnding, groupOpening, deviationOpening, spreadOpening}
 use Rattle.job.specs.Form.{membersOpening, anyWord, space, groupEnding, printLimit, printMembers, printLine}
@@ -20,11 +20,11 @@ use Rattle.job.specs.Form.{numberAs, limitAs, unitAs, membersAs, headAs,
 abbrev same : ℕ → ℕ
 same v = v
 
-read-number : (w : List ℕ) (v : ℕ) (s : List ℕ) → Ends s → numberAs same w (w ++ (printNumber v ++ s)) ≡ parsed v s
+read-number : (w : List ℕ) (v : ℕ) (s : List ℕ) → NoDigitNext s → numberAs same w (w ++ (printNumber v ++ s)) ≡ parsed v s
 unfolding numberAs numberAfter andThen mapped
 read-number w v s h = rw (word-own w (printNumber v ++ s), number-printed v s h)
 
-read-limit : (w : List ℕ) (l : Limit) (s : List ℕ) → Ends s → limitAs same w (w ++ (printLimit l ++ s)) ≡ parsed l s
+read-limit : (w : List ℕ) (l : Limit) (s : List ℕ) → NoDigitNext s → limitAs same w (w ++ (printLimit l ++ s)) ≡ parsed l s
 unfolding limitAs printLimit andThen orElse mapped word
 read-limit w Any s h = rw (word-own w (anyWord ++ s))
 read-limit w (AtMost v) s h =
@@ -38,8 +38,8 @@ no-member : (s : List ℕ) → numberAs same space (41 ∷ s) ≡ failed
 unfolding numberAs numberAfter andThen mapped word
 no-member s = refl
 
-members-end : (ms s : List ℕ) → Ends (printMembers ms ++ 41 ∷ s)
-unfolding printMembers Ends
+members-end : (ms s : List ℕ) → NoDigitNext (printMembers ms ++ 41 ∷ s)
+unfolding printMembers NoDigitNext
 members-end [] s = refl
 members-end (m ∷ ms) s = refl
 
@@ -67,13 +67,13 @@ unfolding unitAs numberAs numberAfter printLine andThen mapped word
 not-unit g s = refl
 
 read-unit : (l : UnitLine) (s : List ℕ) → unitAs same (printLine (unit l) ++ s) ≡ parsed l s
-unfolding unitAs printLine andThen mapped word Ends
+unfolding unitAs printLine andThen mapped word NoDigitNext
 read-unit l s =
     simp append-assoc
     (rw (read-number unitOpening (l .low) (32 ∷ (printNumber (l .high) ++ 41 ∷ 10 ∷ s)) refl, read-number space (l .high) (41 ∷ 10 ∷ s) refl))
 
 read-group : (g : GroupLine) (s : List ℕ) → groupAs same (printLine (group g) ++ s) ≡ parsed g s
-unfolding groupAs headAs grouped printLine andThen mapped word Ends
+unfolding groupAs headAs grouped printLine andThen mapped word NoDigitNext
 read-group g s =
     let ms : List ℕ = g .first ∷ g .others in
     let e : List ℕ = 41 ∷ 10 ∷ s in

@@ -12,19 +12,21 @@ use Rattle.job.specs.Form.{UnitLine, GroupLine, unit, group, unitAs, gro
 use Rattle.job.specs.Laws.HeldAlike.{step-held}
 use Rattle.groups.specs.Inner.Flat.{mostFlat, headLength, headOf, flatGroup, flatten, flatLength}
 use Rattle.groups.specs.Laws.Storing.{flatten-snoc, length-flatten, memberships-snoc, stored, put-behind}
-use Rattle.job.specs.Job.{Job, mostUnits, unitVerdict, headVerdict, membersVerdict, verdict, first, memberOf, groupOf, add, refusal, placeOf}
+use Rattle.job.specs.Job.{Job, unitVerdict, headVerdict, membersVerdict, verdict, firstRefusal, memberOf, groupOf, add, placeOf}
 use Rattle.job.specs.Job.{judged, next, stop, stepOn}
 use Rattle.job.specs.Laws.Tally.{numbersOf}
 use Rattle.job.specs.Laws.Verdicts.{unit-good, head-good}
-use Rattle.job.specs.Inner.Steps.{Lists, Holds}
+use Rattle.job.specs.Inner.Steps.{Lists, ReadSoFar}
 use Rattle.job.specs.declared.steps.Progress.{Progress}
 use Rattle.job.specs.Inner.Taking.{placeAt}
+use Rattle.model.specs.Shares.{mostUnits}
+use Rattle.model.specs.Refusals.{refusal}
 
 judged-stop : (v : ℕ) (job : Job) (s : List ℕ) (place : ℕ) → (v ≡ 0 → ⊥) → judged v job s place ≡ stop (refusal v place)
 judged-stop zero job s place n = absurd (n refl)
 judged-stop (suc v) job s place n = refl
 
-module _ (job : Job) (p : Progress) (l : Lists) (holds : Holds job p l) where
+module _ (job : Job) (p : Progress) (l : Lists) (holds : ReadSoFar job p l) where
   place-held : placeOf job ≡ placeAt p
   place-held = rw (holds .units, holds .groups)
 
@@ -54,7 +56,7 @@ module _ (job : Job) (p : Progress) (l : Lists) (holds : Holds job p l) where
 
   -- the lists with a unit more hold the job with it
   pub unit-holds : (u : UnitLine) → unitVerdict (p .units) (p .groups) u ≡ 0 → mostUnits ≤ length (l .lows) → mostUnits ≤ length (l .highs)
-      → Holds (add job (unit u)) (record { units = p .units + 1; groups = p .groups; memberships = p .memberships })
+      → ReadSoFar (add job (unit u)) (record { units = p .units + 1; groups = p .groups; memberships = p .memberships })
       (record {
         lows₀ = l .lows₀;
         highs₀ = l .highs₀;
@@ -79,12 +81,12 @@ module _ (job : Job) (p : Progress) (l : Lists) (holds : Holds job p l) where
         flat = holds .flat;
       }
 
-module _ (job : Job) (p : Progress) (l : Lists) (holds : Holds job p l) (g : GroupLine) where
+module _ (job : Job) (p : Progress) (l : Lists) (holds : ReadSoFar job p l) (g : GroupLine) where
   abbrev headNumber : ℕ
   headNumber = headVerdict (p .groups) (p .memberships) (g .total) (g .limits) (length (numbersOf g))
 
   abbrev groupVerdict : ℕ
-  groupVerdict = first headNumber (membersVerdict (p .units) (numbersOf g))
+  groupVerdict = firstRefusal headNumber (membersVerdict (p .units) (numbersOf g))
 
   group-verdict : verdict job (group g) ≡ groupVerdict
   unfolding verdict
@@ -142,7 +144,7 @@ module _ (job : Job) (p : Progress) (l : Lists) (holds : Holds job p l) (g : Gro
   -- the lists with a group more hold the job with it
   pub group-holds : (count : ℕ) (flat : List ℕ) → headNumber ≡ 0 → mostFlat ≤ length (l .flat) → length (numbersOf g) ≡ count
       → flat ≡ sets (sets (l .flat) (start + headLength) (map memberOf (numbersOf g))) start headNumbers
-      → Holds (add job (group g)) (record { units = p .units; groups = p .groups + 1; memberships = p .memberships + count })
+      → ReadSoFar (add job (group g)) (record { units = p .units; groups = p .groups + 1; memberships = p .memberships + count })
       (record { lows₀ = l .lows₀; highs₀ = l .highs₀; flat₀ = l .flat₀; lows = l .lows; highs = l .highs; flat = flat })
   unfolding add
   group-holds count flat e h n s =
@@ -164,7 +166,7 @@ pub heads-alike : (d : List ℕ) (at : ℕ) {t u : ℕ} {l k : Limits} {n m : �
 heads-alike d at e f g = rw (e, f, g)
 
 -- a line that is no unit line is taken as a group line
-pub line-is-group : (job : Job) (p : Progress) (l : Lists) → Holds job p l → (s : List ℕ) → unitAs held s ≡ failed
+pub line-is-group : (job : Job) (p : Progress) (l : Lists) → ReadSoFar job p l → (s : List ℕ) → unitAs held s ≡ failed
     → stepOn job (mapped group (groupAs held s)) ≡ stepOn job (line s)
 unfolding lineAs mapped orElse
 line-is-group job p l holds s h =
@@ -172,7 +174,7 @@ line-is-group job p l holds s h =
     ∙ step-held job s (omega (arith, holds .units, holds .bounded .units))
 
 -- a unit line is taken as one
-pub line-is-unit : (job : Job) (p : Progress) (l : Lists) → Holds job p l → (s : List ℕ) (u : UnitLine) (r : List ℕ) → unitAs held s ≡ parsed u r
+pub line-is-unit : (job : Job) (p : Progress) (l : Lists) → ReadSoFar job p l → (s : List ℕ) (u : UnitLine) (r : List ℕ) → unitAs held s ≡ parsed u r
     → stepOn job (parsed (unit u) r) ≡ stepOn job (line s)
 unfolding lineAs mapped orElse
 line-is-unit job p l holds s u r h =

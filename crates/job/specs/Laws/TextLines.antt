@@ -16,7 +16,7 @@ use Rattle.text.specs.Numbers.{printNumber}
 use Rattle.text.specs.Laws.Printed.{print-one, print-more}
 use Rattle.job.specs.Form.{Line, unit, group, unitOpening, groupOpening, deviationOpening, spreadOpening, membersOpening, space, anyWord}
 use Rattle.job.specs.Form.{printLimit, printMembers, printLine}
-use Rattle.job.specs.Job.{holds}
+use Rattle.job.specs.Job.{contains}
 use Rattle.job.specs.TextLines.{ahead, linesOf}
 
 -- one byte more in the lines is one more in the text
@@ -39,20 +39,20 @@ joined-lines (b ∷ s) = by-byte (eqb b 10) (joined-lines s)
 pub record OneLine (bytes : List ℕ) : Type 0 where
   pub body : List ℕ
   pub ended : bytes ≡ body ++ 10 ∷ []
-  pub inside : holds 10 body ≡ false
+  pub inside : contains 10 body ≡ false
 
 -- a number in neither of two lists is not in both together
-both-without : (x : ℕ) (xs ys : List ℕ) → holds x xs ≡ false → holds x ys ≡ false → holds x (xs ++ ys) ≡ false
-unfolding holds
+both-without : (x : ℕ) (xs ys : List ℕ) → contains x xs ≡ false → contains x ys ≡ false → contains x (xs ++ ys) ≡ false
+unfolding contains
 both-without x [] ys p q = q
-both-without x (y ∷ xs) ys p q = let n = neither (eqb x y) (holds x xs) p in rw (n .0) (both-without x xs ys (n .1) q)
+both-without x (y ∷ xs) ys p q = let n = neither (eqb x y) (contains x xs) p in rw (n .0) (both-without x xs ys (n .1) q)
 
 -- the bytes up to the first byte 10 are the first line
-first-line : (w s : List ℕ) → holds 10 w ≡ false → linesOf (w ++ 10 ∷ s) ≡ (w ++ 10 ∷ []) ∷ linesOf s
-unfolding linesOf holds ahead
+first-line : (w s : List ℕ) → contains 10 w ≡ false → linesOf (w ++ 10 ∷ s) ≡ (w ++ 10 ∷ []) ∷ linesOf s
+unfolding linesOf contains ahead
 first-line [] s h = refl
 first-line (b ∷ w) s h =
-    let n = neither (eqb 10 b) (holds 10 w) h in
+    let n = neither (eqb 10 b) (contains 10 w) h in
     rw (ne-eqb b 10 (λ e. eqb-false 10 b (n .0) (sym e)), first-line w s (n .1))
 
 -- a line is cut off as a whole
@@ -60,7 +60,7 @@ pub lines-next : {bytes : List ℕ} → OneLine bytes → (s : List ℕ) → lin
 lines-next one s = rw (one .ended, append-assoc (one .body) (10 ∷ []) s) (first-line (one .body) s (one .inside))
 
 -- bytes without byte 10 ahead of a line
-pub line-ahead : (w : List ℕ) {bytes : List ℕ} → holds 10 w ≡ false → OneLine bytes → OneLine (w ++ bytes)
+pub line-ahead : (w : List ℕ) {bytes : List ℕ} → contains 10 w ≡ false → OneLine bytes → OneLine (w ++ bytes)
 line-ahead w none one = record {
   body = w ++ one .body;
   ended = ap (λ s. w ++ s) (one .ended) ∙ sym (append-assoc w (one .body) (10 ∷ []));
@@ -68,8 +68,8 @@ line-ahead w none one = record {
 }
 
 -- a number's bytes are digits
-number-without : (n v : ℕ) → v < n → holds 10 (printNumber v) ≡ false
-unfolding holds
+number-without : (n v : ℕ) → v < n → contains 10 (printNumber v) ≡ false
+unfolding contains
 number-without zero v h = absurd (omega arith)
 number-without (suc n) v h =
     elim (decLt v 10) [
@@ -86,13 +86,13 @@ number-ahead v one = line-ahead (printNumber v) (number-without (suc v) v (omega
 
 -- a limit
 limit-ahead : (l : Limit) {bytes : List ℕ} → OneLine bytes → OneLine (printLimit l ++ bytes)
-unfolding printLimit holds
+unfolding printLimit contains
 limit-ahead Any one = line-ahead anyWord refl one
 limit-ahead (AtMost v) one = number-ahead v one
 
 -- members
 members-ahead : (ms : List ℕ) {bytes : List ℕ} → OneLine bytes → OneLine (printMembers ms ++ bytes)
-unfolding printMembers holds
+unfolding printMembers contains
 members-ahead [] one = one
 members-ahead (m ∷ ms) {bytes} one =
     rw (printMembers, append-assoc (printNumber m) (printMembers ms) bytes)
@@ -100,7 +100,7 @@ members-ahead (m ∷ ms) {bytes} one =
 
 -- a line as it is written is one line
 pub printed-one : (l : Line) → OneLine (printLine l)
-unfolding printLine holds
+unfolding printLine contains
 printed-one (unit l) =
     line-ahead unitOpening refl
     (number-ahead (l .low) (line-ahead space refl (number-ahead (l .high) (record { body = 41 ∷ []; ended = refl; inside = refl }))))

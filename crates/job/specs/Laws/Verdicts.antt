@@ -8,12 +8,12 @@ use borrow.Author.Tests.{le-leb, lt-ltb, leb-true, ltb-true, eqb-true}
 use lib.Dec.{leb, ltb, eqb}
 use Rattle.model.specs.Figures.{greatestDeviation, greatestSpread, limitWithin}
 use Rattle.groups.specs.Inner.Flat.{mostWord, Coded}
-use Rattle.model.specs.Shares.{greatestShare, greatestTotal}
+use Rattle.model.specs.Shares.{greatestShare, greatestTotal, mostUnits}
 use Rattle.model.specs.declared.Limit.{Limit}
 use Rattle.model.specs.declared.Limit.the-variants.{Any, AtMost}
 use Rattle.model.specs.declared.Limits.{Limits}
 use Rattle.job.specs.Form.{UnitLine}
-use Rattle.job.specs.Job.{mostUnits, mostGroups, mostMemberships, allNamed, distinct, unless, unitVerdict, headVerdict, membersVerdict, first}
+use Rattle.job.specs.Job.{mostGroups, mostMemberships, allNamed, distinct, unless, unitVerdict, headVerdict, membersVerdict, firstRefusal}
 
 -- a test that holds leaves the verdict to those after it
 pub passes : {t : Bool} (n : ℕ) {v r : ℕ} → t ≡ true → v ≡ r → v ≡ unless t n r
@@ -28,19 +28,19 @@ unless-zero true n r h = (refl, h)
 unless-zero false n r h = absurd (omega arith)
 
 -- the first that is one is the verdict
-pub first-some : {a : ℕ} (b : ℕ) → (a ≡ 0 → ⊥) → a ≡ first a b
+pub first-some : {a : ℕ} (b : ℕ) → (a ≡ 0 → ⊥) → a ≡ firstRefusal a b
 first-some {a} b n = by-number a n
   where
-    by-number : (a : ℕ) → (a ≡ 0 → ⊥) → a ≡ first a b
+    by-number : (a : ℕ) → (a ≡ 0 → ⊥) → a ≡ firstRefusal a b
     by-number zero n = absurd (n refl)
     by-number (suc a) n = refl
 
 -- where it is none, the other is
-pub first-none : {a v b : ℕ} → a ≡ 0 → v ≡ b → v ≡ first a b
+pub first-none : {a v b : ℕ} → a ≡ 0 → v ≡ b → v ≡ firstRefusal a b
 first-none z e = rw z e
 
 -- neither refuses
-pub first-zero : (a b : ℕ) → first a b ≡ 0 → (a ≡ 0) × (b ≡ 0)
+pub first-zero : (a b : ℕ) → firstRefusal a b ≡ 0 → (a ≡ 0) × (b ≡ 0)
 first-zero zero b h = (refl, h)
 first-zero (suc a) b h = absurd (omega arith)
 

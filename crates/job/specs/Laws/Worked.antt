@@ -10,7 +10,7 @@ use Rattle.job.specs.Form.{Line, unit, group, printLimit, printMembers, 
 use Rattle.job.specs.Form.{groupAs, lineAs, line}
 use Rattle.groups.specs.Memberships.{memberships}
 use Rattle.groups.specs.Inner.Flat.{flatten}
-use Rattle.job.specs.Job.{Job, allNamed, holds, distinct, unitVerdict, headVerdict, membersVerdict, verdict, add, stepOn, accepted, onward}
+use Rattle.job.specs.Job.{Job, allNamed, contains, distinct, unitVerdict, headVerdict, membersVerdict, verdict, add, stepOn, accepted, onward}
 use Rattle.job.specs.Job.{readLines, someUnit, readJob}
 use Rattle.job.specs.Orders.{OfGroup, Reordered}
 use Rattle.job.specs.TextLines.{ahead, linesOf}
@@ -44,7 +44,7 @@ workedJob =
 -- it reads so
 pub worked-reads : readJob (printLines workedLines) ≡ accepted workedJob
 unfolding workedLines printLines workedJob printLine printLimit printMembers printNumber digitsOf readJob
-    readLines onward someUnit stepOn verdict unitVerdict headVerdict membersVerdict allNamed holds distinct memberships add
+    readLines onward someUnit stepOn verdict unitVerdict headVerdict membersVerdict allNamed contains distinct memberships add
     line lineAs unitAs groupAs headAs limitAs numberAs membersAs
     grouped numberAfter number digits andThen mapped orElse word
 worked-reads = refl

@@ -13,11 +13,11 @@ use Rattle.model.specs.Laws.Lists.{within-length, within-at, within-of, 
 use Rattle.model.specs.Laws.Narrowing.{kept-inside, kept-taken, taken-kept, narrowedLows-length, narrowedHighs-length, narrowedLows-at, narrowedHighs-at}
 use Rattle.model.specs.Laws.Plans.{found-plan, plan-found}
 use Rattle.model.specs.declared.Limits.{Limits}
-use Rattle.model.specs.Narrowing.{Inside, Between}
+use Rattle.model.specs.Narrowing.{RangesInside, PartlyNarrowed}
 
 -- a plan within ranges is a plan within wider ones
 pub plan-widen : {lows′ highs′ lows highs xs : List ℕ} {total : ℕ} {limits : Limits}
-    → Inside lows′ highs′ lows highs → Plan lows′ highs′ total limits xs → Plan lows highs total limits xs
+    → RangesInside lows′ highs′ lows highs → Plan lows′ highs′ total limits xs → Plan lows highs total limits xs
 plan-widen {lows′} {highs′} {lows} {highs} {xs} inside plan = record {
   within = within-of lows highs xs
       (sym (inside .sameLows) ∙ within-length (plan .within) .0)
@@ -34,7 +34,7 @@ plan-widen {lows′} {highs′} {lows} {highs} {xs} inside plan = record {
 
 -- smaller ranges narrow to smaller ranges
 pub narrowing-monotone : {lows′ highs′ lows highs : List ℕ} → Ranges lows′ highs′ → Ranges lows highs
-    → Inside lows′ highs′ lows highs → (total : ℕ) (limits : Limits) → hasPlan lows′ highs′ total limits ≡ true
+    → RangesInside lows′ highs′ lows highs → (total : ℕ) (limits : Limits) → hasPlan lows′ highs′ total limits ≡ true
     → (i : ℕ) → i < length lows
     → (narrowedLow lows highs total limits i ≤ narrowedLow lows′ highs′ total limits i)
     × (narrowedHigh lows′ highs′ total limits i ≤ narrowedHigh lows highs total limits i)
@@ -51,7 +51,7 @@ narrowing-monotone {lows′} {highs′} {lows} {highs} ranges′ ranges inside t
 
 module _ {lows highs : List ℕ} (ranges : Ranges lows highs) (total : ℕ) (limits : Limits) where
   -- they have the same plans
-  pub between-plan : {lows′ highs′ xs : List ℕ} → Between lows highs total limits lows′ highs′ → Plan lows highs total limits xs
+  pub between-plan : {lows′ highs′ xs : List ℕ} → PartlyNarrowed lows highs total limits lows′ highs′ → Plan lows highs total limits xs
       → Plan lows′ highs′ total limits xs
   between-plan {lows′} {highs′} {xs} between plan = record {
     within = within-of lows′ highs′ xs
@@ -66,7 +66,7 @@ module _ {lows highs : List ℕ} (ranges : Ranges lows highs) (total : ℕ) (lim
 
   module _ (found : hasPlan lows highs total limits ≡ true) where
     -- the narrowed ranges are between
-    pub narrowed-between : Between lows highs total limits (narrowedLows lows highs total limits) (narrowedHighs lows highs total limits)
+    pub narrowed-between : PartlyNarrowed lows highs total limits (narrowedLows lows highs total limits) (narrowedHighs lows highs total limits)
     narrowed-between = record {
       inside = record {
         sameLows = narrowedLows-length lows highs total limits;
@@ -86,14 +86,14 @@ module _ {lows highs : List ℕ} (ranges : Ranges lows highs) (total : ℕ) (lim
     narrowed-plans xs = (between-plan narrowed-between, plan-widen (narrowed-between .inside))
 
     -- and they are ranges
-    pub between-ranges : {lows′ highs′ : List ℕ} → Between lows highs total limits lows′ highs′ → Ranges lows′ highs′
+    pub between-ranges : {lows′ highs′ : List ℕ} → PartlyNarrowed lows highs total limits lows′ highs′ → Ranges lows′ highs′
     between-ranges {lows′} {highs′} between =
         ranges-of lows′ highs′ (omega (arith, between .inside .sameLows, between .inside .sameHighs, ranges-length ranges)) (λ i below.
         let under : i < length lows = omega (arith, between .inside .sameLows) in
         omega (arith, kept-inside ranges total limits found i under, between .keeps i under, between .inside .at i under, ranges-at ranges i under))
 
     -- they narrow to the same ranges: members may be narrowed one after another in place
-    pub between-narrowed : {lows′ highs′ : List ℕ} → Between lows highs total limits lows′ highs′ → (i : ℕ) → i < length lows
+    pub between-narrowed : {lows′ highs′ : List ℕ} → PartlyNarrowed lows highs total limits lows′ highs′ → (i : ℕ) → i < length lows
         → (narrowedLow lows′ highs′ total limits i ≡ narrowedLow lows highs total limits i)
         × (narrowedHigh lows′ highs′ total limits i ≡ narrowedHigh lows highs total limits i)
     between-narrowed {lows′} {highs′} between i below =

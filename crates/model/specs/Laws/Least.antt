@@ -63,7 +63,7 @@ surplus-set even (x ∷ xs) zero y h = omega arith
 surplus-set even (x ∷ xs) (suc i) y h = omega (arith, surplus-set (λ k. even (suc k)) xs i y (le-of-suc-le-suc h))
 
 -- ys comes of xs by exchanges: within the same ranges, with the same total, and with no figure raised
-pub record Stepped (lows highs xs ys : List ℕ) : Type 1 where
+pub record Exchanged (lows highs xs ys : List ℕ) : Type 1 where
   pub within : Within lows highs ys
   pub adds : sum ys ≡ sum xs
   pub lowers : (F : List ℕ → ℕ) → SchurConvex F → F ys ≤ F xs
@@ -84,7 +84,7 @@ module _ {lows highs even xs : List ℕ} (we : Within lows highs even) (ev : Eve
     )
 
     -- the exchange is a step
-    exchanged : Stepped lows highs xs (transfer i j xs)
+    exchanged : Exchanged lows highs xs (transfer i j xs)
     unfolding transfer
     exchanged = record {
       within =
@@ -104,13 +104,13 @@ module _ {lows highs even xs : List ℕ} (we : Within lows highs even) (ev : Eve
 
   module _ (s : sum xs ≡ sum even) (i : ℕ) (p : i < length xs) where
     -- a share above the even one can come down by one copy
-    pub step-down : getD even i 0 < getD xs i 0 → (ys : List ℕ) × Stepped lows highs xs ys × (suc (getD ys i 0) ≡ getD xs i 0)
+    pub step-down : getD even i 0 < getD xs i 0 → (ys : List ℕ) × Exchanged lows highs xs ys × (suc (getD ys i 0) ≡ getD xs i 0)
     step-down h =
         let j : Lower xs even = partner xs even (sym same-length) s i p h in
         (transfer i (j .0) xs, exchanged i (j .0) p (j .1) h (j .2), transfer-from xs i (j .0) p (higher i (j .0) p (j .1) h (j .2)))
 
     -- a share below the even one can go up by one copy
-    pub step-up : getD xs i 0 < getD even i 0 → (ys : List ℕ) × Stepped lows highs xs ys × (getD ys i 0 ≡ suc (getD xs i 0))
+    pub step-up : getD xs i 0 < getD even i 0 → (ys : List ℕ) × Exchanged lows highs xs ys × (getD ys i 0 ≡ suc (getD xs i 0))
     step-up h =
         let j : Lower even xs = partner even xs same-length (sym s) i (omega (arith, same-length)) h in
         (transfer (j .0) i xs, exchanged (j .0) i (omega (arith, same-length)) p (j .2) h, transfer-to xs (j .0) i p)
@@ -123,7 +123,7 @@ toward {F} schur {even = even} {xs = xs} we ev (suc fuel) h wx s = elim (lower e
   | inl i ↦
       let p : i .0 < length xs = omega (arith, same-length we ev wx) in
       let j : Lower xs even = partner xs even (sym (same-length we ev wx)) s (i .0) p (i .2) in
-      let t : Stepped _ _ xs (transfer (i .0) (j .0) xs) = exchanged we ev wx (i .0) (j .0) p (j .1) (i .2) (j .2) in
+      let t : Exchanged _ _ xs (transfer (i .0) (j .0) xs) = exchanged we ev wx (i .0) (j .0) p (j .1) (i .2) (j .2) in
       omega (
         arith,
         t .lowers F schur,

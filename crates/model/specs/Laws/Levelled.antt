@@ -42,25 +42,25 @@ pub near-even : {v : ℕ} {lows highs xs : List ℕ} → Near v lows highs xs �
 near-even r = record { near = λ i j hi hj p q. omega (arith, (near-at r i hi) .0 p, (near-at r j hj) .1 q) }
 
 -- shares from those clamped at v to those clamped at v + 1: whichever growing members take the copies left over
-abbrev pub Between : ℕ → List ℕ → List ℕ → List ℕ → Type 0
-Between v lows highs xs = Within (clamped lows highs v) (clamped lows highs (suc v)) xs
+abbrev pub LevelOrNext : ℕ → List ℕ → List ℕ → List ℕ → Type 0
+LevelOrNext v lows highs xs = Within (clamped lows highs v) (clamped lows highs (suc v)) xs
 
 -- such shares are near v
-pub between-near : {lows highs xs : List ℕ} → Ranges lows highs → (v : ℕ) → Between v lows highs xs → Near v lows highs xs
+pub between-near : {lows highs xs : List ℕ} → Ranges lows highs → (v : ℕ) → LevelOrNext v lows highs xs → Near v lows highs xs
 unfolding clamped
 between-near Ranges.none v Within.none = Near.none
 between-near (Ranges.also {l = l} {h = h} p q r) v (Within.also {x = x} a b w) =
     Near.also {l = l} {h = h} {x = x} (omega arith) (omega arith) (between-near r v w)
 
 -- such shares are in the ranges
-pub between-within : {lows highs xs : List ℕ} → Ranges lows highs → (v : ℕ) → Between v lows highs xs → Within lows highs xs
+pub between-within : {lows highs xs : List ℕ} → Ranges lows highs → (v : ℕ) → LevelOrNext v lows highs xs → Within lows highs xs
 unfolding clamped
 between-within Ranges.none v Within.none = Within.none
 between-within (Ranges.also {l = l} {h = h} p q r) v (Within.also {x = x} a b w) =
     Within.also {l = l} {h = h} {x = x} (omega arith) (omega arith) (between-within r v w)
 
 -- handing copies to the first growing members gives such shares
-pub topped-between : {lows highs : List ℕ} → Ranges lows highs → (v left : ℕ) → Between v lows highs (topped lows highs v left)
+pub topped-between : {lows highs : List ℕ} → Ranges lows highs → (v left : ℕ) → LevelOrNext v lows highs (topped lows highs v left)
 unfolding clamped topped
 topped-between Ranges.none v left = Within.none
 topped-between (Ranges.also {l = l} {h = h} p q r) v left =

@@ -10,18 +10,18 @@ use lib.ListN.{length, getD}
 use Rattle.model.specs.Shares.{Ranges}
 use Rattle.model.specs.Levels.{levelled}
 use Rattle.model.specs.Plans.{Plan, hasPlan, taken, tabulate, narrowedLow, narrowedHigh, narrowedLows, narrowedHighs}
-use Rattle.model.specs.Laws.Least.{Stepped, step-down, step-up}
+use Rattle.model.specs.Laws.Least.{Exchanged, step-down, step-up}
 use Rattle.model.specs.Laws.Levelled.{levelled-within, levelled-even}
 use Rattle.model.specs.Laws.Lists.{within-length, within-at}
 use Rattle.model.specs.Laws.Pinned.{taken-plan, plan-taken}
 use Rattle.model.specs.Laws.Plans.{meets-less, found-plan}
-use Rattle.model.specs.Laws.Search.{Passing, firstUp-passes, firstDown-passes}
+use Rattle.model.specs.Laws.Search.{PassesBetween, firstUp-passes, firstDown-passes}
 use Rattle.model.specs.declared.Limits.{Limits}
 use Rattle.model.specs.Narrowing.{Taken}
 
 module _ {lows highs : List ℕ} (ranges : Ranges lows highs) (total : ℕ) (limits : Limits) where
   -- a step toward the levelled shares makes a plan of a plan
-  stepped-plan : {xs ys : List ℕ} → Plan lows highs total limits xs → Stepped lows highs xs ys → Plan lows highs total limits ys
+  stepped-plan : {xs ys : List ℕ} → Plan lows highs total limits xs → Exchanged lows highs xs ys → Plan lows highs total limits ys
   stepped-plan {xs} {ys} plan stepped = record {
     within = stepped .within;
     adds = stepped .adds ∙ plan .adds;
@@ -57,7 +57,7 @@ module _ {lows highs : List ℕ} (ranges : Ranges lows highs) (total : ℕ) (lim
 
   -- the narrowed low is taken, and no plan's value is below it; the narrowed high likewise
   lowest : (i : ℕ) → i < length lows → {xs : List ℕ} → Plan lows highs total limits xs
-      → Passing (taken lows highs total limits i) (getD lows i 0) (narrowedLow lows highs total limits i) (getD xs i 0)
+      → PassesBetween (taken lows highs total limits i) (getD lows i 0) (narrowedLow lows highs total limits i) (getD xs i 0)
   unfolding narrowedLow
   lowest i below {xs} plan =
       let inside : (getD lows i 0 ≤ getD xs i 0) × (getD xs i 0 ≤ getD highs i 0) =
@@ -66,7 +66,7 @@ module _ {lows highs : List ℕ} (ranges : Ranges lows highs) (total : ℕ) (lim
       (plan-taken ranges i below plan) (inside .0) (omega arith)
 
   highest : (i : ℕ) → i < length lows → {xs : List ℕ} → Plan lows highs total limits xs
-      → Passing (taken lows highs total limits i) (getD xs i 0) (narrowedHigh lows highs total limits i) (getD highs i 0)
+      → PassesBetween (taken lows highs total limits i) (getD xs i 0) (narrowedHigh lows highs total limits i) (getD highs i 0)
   unfolding narrowedHigh
   highest i below {xs} plan =
       let inside : (getD lows i 0 ≤ getD xs i 0) × (getD xs i 0 ≤ getD highs i 0) =

@@ -31,38 +31,38 @@ module _ (lows highs : List ℕ) (i : ℕ) (p : i < length lows) (q : i < length
 
 -- the sum of f over the shares of the members before i is passed: with that over the shares of the others, rest copies still to
 -- hand out, it is the sum over all
-abbrev pub Passed : (ℕ → ℕ) → List ℕ → List ℕ → ℕ → ℕ → ℕ → ℕ → ℕ → Type 0
-Passed f lows highs v left rest i passed =
+abbrev pub SummedBefore : (ℕ → ℕ) → List ℕ → List ℕ → ℕ → ℕ → ℕ → ℕ → ℕ → Type 0
+SummedBefore f lows highs v left rest i passed =
     passed + sumOf f (topped (drop i lows) (drop i highs) v rest) ≡ sumOf f (topped lows highs v left)
 
 -- it grows by f of member i's share
 pub passed-step : (f : ℕ → ℕ) (lows highs : List ℕ) (i : ℕ) → i < length lows → i < length highs → (v left rest passed base more : ℕ)
     → base ≡ clamp (getD lows i 0) (getD highs i 0) v → more ≡ min rest (growth (getD lows i 0) (getD highs i 0) v)
-    → Passed f lows highs v left rest i passed → Passed f lows highs v left (rest - more) (i + 1) (passed + f (base + more))
+    → SummedBefore f lows highs v left rest i passed → SummedBefore f lows highs v left (rest - more) (i + 1) (passed + f (base + more))
 unfolding sumOf
 passed-step f lows highs i p q v left rest passed base more is-clamp is-growth held =
     rw (is-clamp, is-growth) (omega (arith, rw (topped-walk lows highs i p q v rest) at held))
 
 -- once all members are passed it is the sum over all
 pub passed-all : (f : ℕ → ℕ) (lows highs : List ℕ) (v left rest i passed : ℕ) → length lows ≤ i
-    → Passed f lows highs v left rest i passed → passed ≡ sumOf f (topped lows highs v left)
+    → SummedBefore f lows highs v left rest i passed → passed ≡ sumOf f (topped lows highs v left)
 unfolding sumOf topped
 passed-all f lows highs v left rest i passed h held = omega (arith, rw (drop-of-length-le lows h) at held)
 
 -- the shares of the members before i are written over the first numbers of the plan that was; the others are still to come
-pub record Written (lows highs : List ℕ) (v left rest i : ℕ) (was plan : List ℕ) : Type 0 where
+pub record SharesWritten (lows highs : List ℕ) (v left rest i : ℕ) (was plan : List ℕ) : Type 0 where
   pub size : length plan ≡ length was
   pub first : take i plan ++ topped (drop i lows) (drop i highs) v rest ≡ topped lows highs v left
   pub others : drop i plan ≡ drop i was
 
 -- nothing is written yet
-pub written-none : (lows highs : List ℕ) (v left : ℕ) (was : List ℕ) → Written lows highs v left left 0 was was
+pub written-none : (lows highs : List ℕ) (v left : ℕ) (was : List ℕ) → SharesWritten lows highs v left left 0 was was
 written-none lows highs v left was = record { size = refl; first = refl; others = refl }
 
 -- member i's share is written
 pub written-step : (lows highs : List ℕ) (i : ℕ) → i < length lows → i < length highs → (v left rest base more : ℕ) (was plan : List ℕ)
     → i < length was → base ≡ clamp (getD lows i 0) (getD highs i 0) v → more ≡ min rest (growth (getD lows i 0) (getD highs i 0) v)
-    → Written lows highs v left rest i was plan → Written lows highs v left (rest - more) (i + 1) was (set plan i (base + more))
+    → SharesWritten lows highs v left rest i was plan → SharesWritten lows highs v left (rest - more) (i + 1) was (set plan i (base + more))
 written-step lows highs i p q v left rest base more was plan room is-clamp is-growth held =
     let room′ : i < length plan = omega (arith, held .size) in
     let next : take (i + 1) (set plan i (base + more)) ≡ take i plan ++ ((base + more) ∷ []) =
@@ -76,7 +76,7 @@ written-step lows highs i p q v left rest base more was plan room is-clamp is-gr
 
 -- all members' shares are written, and the other numbers are those that were
 pub written-all : (lows highs : List ℕ) (v left rest i : ℕ) (was plan : List ℕ) → i ≡ length lows
-    → Written lows highs v left rest i was plan → plan ≡ topped lows highs v left ++ drop (length lows) was
+    → SharesWritten lows highs v left rest i was plan → plan ≡ topped lows highs v left ++ drop (length lows) was
 unfolding topped
 written-all lows highs v left rest i was plan end held =
     let first : take i plan ≡ topped lows highs v left =

@@ -14,7 +14,7 @@ use Rattle.group.specs.declared.Levelling.{Levelling}
 use Rattle.group.specs.declared.Levelling.the-variants as level
 use Rattle.group.specs.declared.Narrowing.{Narrowing}
 use Rattle.group.specs.declared.Narrowing.the-variants as narrow
-use Rattle.planner.specs.Foreign.{foreignLevelled, foreignNarrowed, limitsOf}
+use Rattle.planner.specs.Foreign.{foreignLevelled, foreignNarrowed, foreignLimits}
 use Rattle.planner.specs.declared.ForeignLimits.{ForeignLimits}
 use Rattle.planner.specs.Promises.{ForeignLevelPromise, ForeignNarrowPromise}
 
@@ -44,30 +44,30 @@ foreign-level-promised lows highs total plan = by-answer (levelling lows highs t
 
 -- it keeps that promise, for any lists
 pub foreign-narrow-promised : (lows highs : List ℕ) (total : ℕ) (limits : ForeignLimits)
-    → ForeignNarrowPromise lows highs total limits (foreignNarrowed (narrowing lows highs total (limitsOf limits)))
-    (lowsLeft lows highs total (limitsOf limits)) (highsLeft lows highs total (limitsOf limits))
-foreign-narrow-promised lows highs total limits = by-answer (narrowing lows highs total (limitsOf limits)) refl
+    → ForeignNarrowPromise lows highs total limits (foreignNarrowed (narrowing lows highs total (foreignLimits limits)))
+    (lowsLeft lows highs total (foreignLimits limits)) (highsLeft lows highs total (foreignLimits limits))
+foreign-narrow-promised lows highs total limits = by-answer (narrowing lows highs total (foreignLimits limits)) refl
   where
-    given-by : {answer words : Narrowing} → narrowing lows highs total (limitsOf limits) ≡ answer
-        → NarrowFinding lows highs total (limitsOf limits) words → foreignNarrowed answer ≡ foreignNarrowed words
-    given-by is finding = ap foreignNarrowed (sym is ∙ narrow-exactly lows highs total (limitsOf limits) _ .1 finding)
+    given-by : {answer words : Narrowing} → narrowing lows highs total (foreignLimits limits) ≡ answer
+        → NarrowFinding lows highs total (foreignLimits limits) words → foreignNarrowed answer ≡ foreignNarrowed words
+    given-by is finding = ap foreignNarrowed (sym is ∙ narrow-exactly lows highs total (foreignLimits limits) _ .1 finding)
 
-    by-answer : (answer : Narrowing) → narrowing lows highs total (limitsOf limits) ≡ answer
+    by-answer : (answer : Narrowing) → narrowing lows highs total (foreignLimits limits) ≡ answer
         → ForeignNarrowPromise lows highs total limits (foreignNarrowed answer)
-        (lowsLeft lows highs total (limitsOf limits)) (highsLeft lows highs total (limitsOf limits))
+        (lowsLeft lows highs total (foreignLimits limits)) (highsLeft lows highs total (foreignLimits limits))
     by-answer narrow.Narrowed is = record {
-      accepted = λ none. narrow-promised lows highs total (limitsOf limits) is;
+      accepted = λ none. narrow-promised lows highs total (foreignLimits limits) is;
       refused = λ some. absurd (omega arith);
       given = given-by is;
     }
     by-answer (narrow.Refused refused) is =
-        let finding = narrow-exactly lows highs total (limitsOf limits) _ .0 is in
+        let finding = narrow-exactly lows highs total (foreignLimits limits) _ .0 is in
         record {
           accepted = λ none. absurd (omega (arith, narrow-between (narrow-number finding)));
           refused = λ some. (
             finding,
-            narrow-unchanged lows highs total (limitsOf limits) is .0,
-            narrow-unchanged lows highs total (limitsOf limits) is .1,
+            narrow-unchanged lows highs total (foreignLimits limits) is .0,
+            narrow-unchanged lows highs total (foreignLimits limits) is .1,
           );
           given = given-by is;
         }

@@ -4,15 +4,15 @@ use Prim.Native.Nat.{ℕ}
 use mathlib.Core.List.{List, [], _∷_, flatten}
 use mathlib.Core.Path.{refl}
 use Rattle.text.specs.Words.{bytes}
-use Rattle.print.specs.Items.{form, line}
+use Rattle.print.specs.Items.{form, printedLine}
 use Rattle.print.specs.Inner.Written.{Room}
 use Rattle.print.specs.Laws.Written.{Rest, begin, room-next, next, done}
 use Rattle.print.proofs.put_line.Statement.{statement}
 use Rattle.print.proofs.put_line.Tie as tie
 
-parts : (word vs : List ℕ) {buffer : List ℕ} {at : ℕ} → Room buffer at (line word vs)
-    → Rest (line word vs) buffer at (form word vs ∷ bytes ")\n" ∷ []) buffer at
-unfolding line
+parts : (word vs : List ℕ) {buffer : List ℕ} {at : ℕ} → Room buffer at (printedLine word vs)
+    → Rest (printedLine word vs) buffer at (form word vs ∷ bytes ")\n" ∷ []) buffer at
+unfolding printedLine
 parts word vs room = begin _ refl room
 
 put-form-requires : tie.Need-put-form-requires

@@ -9,7 +9,7 @@ use lib.ListN.{length, getD, length-append}
 use Rattle.text.specs.Numbers.{printNumber}
 use Rattle.text.specs.Laws.Printed.{print-one, print-more}
 use Rattle.text.specs.Words.{bytes}
-use Rattle.print.specs.Items.{item, items, form, line}
+use Rattle.print.specs.Items.{item, items, form, printedLine}
 
 -- a number below a power of ten has at most so many digits
 pub print-length : (k v : ℕ) → v < 10 ^ suc k → length (printNumber v) ≤ suc k
@@ -55,6 +55,6 @@ unfolding form flatten
 form-length word vs = omega (arith, length-append word (items vs ++ []), length-append (items vs) [])
 
 -- and a line two bytes longer
-pub line-length : (word vs : List ℕ) → length (line word vs) ≡ length word + length (items vs) + 2
-unfolding line flatten
+pub line-length : (word vs : List ℕ) → length (printedLine word vs) ≡ length word + length (items vs) + 2
+unfolding printedLine flatten
 line-length word vs = omega (arith, length-append (form word vs) (bytes ")\n"), form-length word vs)

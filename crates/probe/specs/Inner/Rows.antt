@@ -18,7 +18,7 @@ rowAt table k = record {
 }
 
 -- row k is written, and every other row is as it was
-pub record Written (k : ℕ) (row : Row) (before after : List ℕ) : Type 0 where
+pub record RowWritten (k : ℕ) (row : Row) (before after : List ℕ) : Type 0 where
   pub same : length after ≡ length before
   pub here : rowAt after k ≡ row
   pub others : (j : ℕ) → j ≢ k → rowAt after j ≡ rowAt before j

@@ -11,7 +11,7 @@ use Rattle.probe.specs.Inner.Rows.{rowAt}
 use Rattle.probe.specs.Inner.Spans.{Span}
 
 -- 01: a group of at most 256 units, with a total of at most 256,000,000
-pub record Sound (lows highs : List ℕ) (total : ℕ) : Type 0 where
+pub record SoundWithTotal (lows highs : List ℕ) (total : ℕ) : Type 0 where
   pub ranges : Ranges lows highs
   pub paired : length highs ≡ length lows
   pub few : length lows ≤ 256
@@ -41,7 +41,7 @@ abbrev pub SpanTo : List ℕ → List ℕ → Row → ℕ → Type 0
 SpanTo lows highs row w = Span lows highs (row .mark) w (row .lows) (row .highs)
 
 -- the breakpoint table of a group: a row for level 0 and one for each bound, rising
-pub record Table (lows highs : List ℕ) (total : ℕ) (table : List ℕ) : Type 0 where
+pub record Breakpoints (lows highs : List ℕ) (total : ℕ) (table : List ℕ) : Type 0 where
   pub room : 6 * (2 * length lows) + 6 ≤ length table
   pub first : rowAt table 0 .mark ≡ 0
   pub sums : (k : ℕ) → k ≤ 2 * length lows → Sums lows highs total (rowAt table k)
@@ -63,7 +63,7 @@ pub record Movable (stored a b from to : ℕ) : Type 0 where
   pub fits : a * from + b * to ≤ stored + (a * to + b * from)
 
 -- a row moved to a further level
-pub record Moved (lows highs : List ℕ) (total : ℕ) (row : Row) (mark : ℕ) (after : Row) : Type 0 where
+pub record RowMoved (lows highs : List ℕ) (total : ℕ) (row : Row) (mark : ℕ) (after : Row) : Type 0 where
   pub sums : Sums lows highs total after
   pub at : after .mark ≡ mark
   pub sameLows : after .lows ≡ row .lows

@@ -8,7 +8,7 @@ use Rattle.model.specs.Figures.{figuresOf}
 use Rattle.model.specs.Levels.{levelled}
 use Rattle.model.specs.declared.Figures.{Figures}
 use Rattle.probe.specs.declared.probing.Spot.{Spot}
-use Rattle.probe.specs.Inner.Tables.{Sound, Table}
+use Rattle.probe.specs.Inner.Tables.{SoundWithTotal, Breakpoints}
 use Rattle.probe.specs.Inner.Pins.{Pin}
 use Rattle.probe.specs.Inner.Probes.{RowOf, MadeUp}
 
@@ -24,8 +24,8 @@ pub record PinnedFigures (lows highs : List ℕ) (low high v total : ℕ) (figur
 
 -- a value that the other members can make up for, with its row
 pub record Spotted (lows highs table : List ℕ) (total : ℕ) (spot : Spot) : Type 0 where
-  pub sound : Sound lows highs total
-  pub held : Table lows highs total table
+  pub sound : SoundWithTotal lows highs total
+  pub held : Breakpoints lows highs total table
   pub here : spot .member < length lows
   pub small : spot .value ≤ greatestShare
   pub reach : MadeUp lows highs table total (spot .member) (spot .value)

@@ -6,26 +6,26 @@ use native.Mathlib.Decide.{ℕ-discrete}
 use native.Mathlib.Omega.{arith}
 use lib.ListN.{length}
 use Rattle.probe.specs.declared.rows.Row.{Row}
-use Rattle.probe.specs.Inner.Rows.{rowAt, Written}
+use Rattle.probe.specs.Inner.Rows.{rowAt, RowWritten}
 use Rattle.probe.specs.Laws.Spans.{span}
 use Rattle.probe.specs.Laws.Walks.{parted-none, parted-all}
-use Rattle.probe.specs.Inner.Tables.{Sound, Sums, SpanTo, Table}
-use Rattle.probe.specs.Inner.Steps.{Risen, Walk, Stepped, Begun}
+use Rattle.probe.specs.Inner.Tables.{SoundWithTotal, Sums, SpanTo, Breakpoints}
+use Rattle.probe.specs.Inner.Steps.{Risen, RowReached, NextRow, Begun}
 
 -- the rows up to k are filled
-pub record Filled (lows highs starts stops : List ℕ) (total k : ℕ) (table : List ℕ) : Type 0 where
+pub record RowsTo (lows highs starts stops : List ℕ) (total k : ℕ) (table : List ℕ) : Type 0 where
   pub room : 6 * (2 * length lows) + 6 ≤ length table
   pub few : k ≤ 2 * length lows
   pub first : rowAt table 0 .mark ≡ 0
   pub sums : (j : ℕ) → j ≤ k → Sums lows highs total (rowAt table j)
   pub spans : (j : ℕ) → j < k → SpanTo lows highs (rowAt table j) (rowAt table (suc j) .mark)
-  pub walk : Walk lows highs starts stops total (rowAt table k)
+  pub walk : RowReached lows highs starts stops total (rowAt table k)
   pub counted : rowAt table k .lows + rowAt table k .highs ≡ k
 
 module _ {lows highs starts stops : List ℕ} {total : ℕ} where
   -- the first row
   pub filled-first : {row : Row} {before table : List ℕ} → 6 * (2 * length lows) + 6 ≤ length before
-      → Begun lows highs total row → Written 0 row before table → Filled lows highs starts stops total 0 table
+      → Begun lows highs total row → RowWritten 0 row before table → RowsTo lows highs starts stops total 0 table
   filled-first {row} {before} {table} room begun put = record {
     room = rw (put .same) room;
     few = omega arith;
@@ -41,10 +41,10 @@ module _ {lows highs starts stops : List ℕ} {total : ℕ} where
   }
 
   -- one row more
-  pub filled-next : {k : ℕ} {row : Row} {before table : List ℕ} → Filled lows highs starts stops total k before → k < 2 * length lows
-      → Stepped lows highs starts stops total (rowAt before k) row → Written (suc k) row before table
-      → Filled lows highs starts stops total (suc k) table
-  filled-next {k} {row} {before} {table} filled more stepped put =
+  pub rows-next : {k : ℕ} {row : Row} {before table : List ℕ} → RowsTo lows highs starts stops total k before → k < 2 * length lows
+      → NextRow lows highs starts stops total (rowAt before k) row → RowWritten (suc k) row before table
+      → RowsTo lows highs starts stops total (suc k) table
+  rows-next {k} {row} {before} {table} filled more stepped put =
       let kept : (j : ℕ) → j ≤ k → rowAt table j ≡ rowAt before j = (λ j h. put .others j (λ e. omega arith)) in
       record {
         room = rw (put .same) (filled .room);
@@ -63,9 +63,9 @@ module _ {lows highs starts stops : List ℕ} {total : ℕ} where
       }
 
   -- all rows: every bound is passed
-  pub filled-all : {k : ℕ} {table : List ℕ} → Sound lows highs total → Risen lows highs starts stops
-      → Filled lows highs starts stops total k table → 2 * length lows ≤ k → Table lows highs total table
-  filled-all {k} {table} sound risen filled past =
+  pub rows-all : {k : ℕ} {table : List ℕ} → SoundWithTotal lows highs total → Risen lows highs starts stops
+      → RowsTo lows highs starts stops total k table → 2 * length lows ≤ k → Breakpoints lows highs total table
+  rows-all {k} {table} sound risen filled past =
       let full : 2 * length lows ≡ k = omega (arith, filled .few) in
       let end : Row = rowAt table k in
       let all-lows : end .lows ≡ length starts =

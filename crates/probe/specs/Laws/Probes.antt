@@ -11,13 +11,13 @@ use Rattle.probe.specs.declared.rows.Row.{Row}
 use Rattle.probe.specs.declared.pins.Reach.{Reach}
 use Rattle.probe.specs.Inner.Rows.{rowAt}
 use Rattle.probe.specs.Inner.Spans.{Span}
-use Rattle.probe.specs.Inner.Tables.{Sound, Table, itself}
+use Rattle.probe.specs.Inner.Tables.{SoundWithTotal, Breakpoints, itself}
 use Rattle.probe.specs.Laws.Tables.{small-itself, clamped-small}
 use Rattle.probe.specs.Inner.Pins.{Pin, Reached}
 use Rattle.probe.specs.Laws.Pins.{pinned-span, grows, reached-mark, reached-between}
 use Rattle.probe.specs.Inner.Probes.{pinnedTotal, Pinnable, Probeable, Found, Divided}
 
-module _ {lows highs table lows′ highs′ : List ℕ} {total low high v : ℕ} (sound : Sound lows highs total) (held : Table lows highs total table)
+module _ {lows highs table lows′ highs′ : List ℕ} {total low high v : ℕ} (sound : SoundWithTotal lows highs total) (held : Breakpoints lows highs total table)
     (pin : Pin lows highs low high v lows′ highs′) where
   -- the pinned group's T at a row's level is what is computed from the row
   module _ (k : ℕ) (upTo : k ≤ 2 * length lows) where

@@ -14,7 +14,7 @@ use Rattle.model.specs.Laws.Tests.{clash}
 use Rattle.model.specs.declared.Limits.{Limits}
 use Rattle.probe.specs.declared.rows.Row.{Row}
 use Rattle.probe.specs.Inner.Rows.{rowAt}
-use Rattle.probe.specs.Inner.Tables.{Sound, Table}
+use Rattle.probe.specs.Inner.Tables.{SoundWithTotal, Breakpoints}
 use Rattle.probe.specs.Laws.Pins.{pinned, unpinned}
 use Rattle.probe.specs.Inner.Probes.{pinnedTotal, Found, InReach}
 use Rattle.probe.specs.Laws.Probes.{pinnable, pinned-total}
@@ -41,7 +41,7 @@ pub reach-between : {table : List ℕ} {last low high a b total : ℕ} → InRea
 unfolding pinnedTotal
 reach-between from upTo m above below = record { least = omega (arith, upTo .least); greatest = omega (arith, from .greatest) }
 
-module _ {lows highs table : List ℕ} {total : ℕ} (sound : Sound lows highs total) (held : Table lows highs total table) where
+module _ {lows highs table : List ℕ} {total : ℕ} (sound : SoundWithTotal lows highs total) (held : Breakpoints lows highs total table) where
   -- the rows' levels rise
   marks-rise : (j d : ℕ) → j + d ≤ 2 * length lows → rowAt table j .mark ≤ rowAt table (j + d) .mark
   marks-rise j zero upTo = rw add-zero (omega arith)

@@ -8,7 +8,7 @@ use native.Mathlib.Omega.{arith}
 use lib.ListN.{length, getD, set, length-set}
 use lib.Seq.{getD-set-same, getD-set-other, sets, length-sets}
 use Rattle.probe.specs.declared.rows.Row.{Row}
-use Rattle.probe.specs.Inner.Rows.{rowAt, Written}
+use Rattle.probe.specs.Inner.Rows.{rowAt, RowWritten}
 
 -- numbers written from p on leave those at other places
 sets-other : (vs xs : List ℕ) (p q : ℕ) → ((i : ℕ) → i < length vs → q ≢ p + i) → getD (sets xs p vs) q 0 ≡ getD xs q 0
@@ -38,9 +38,9 @@ same-row : (a b : Row) → a .mark ≡ b .mark → a .total ≡ b .total → a .
 same-row a b m t d s l h = λ i. record { mark = m i; total = t i; deviation = d i; squares = s i; lows = l i; highs = h i }
 
 -- a row's numbers written from its place on
-pub written : (k : ℕ) (row : Row) (table : List ℕ) → 6 * k + 6 ≤ length table → Written k row table (sets table (6 * k) (numbers row))
+pub row-written : (k : ℕ) (row : Row) (table : List ℕ) → 6 * k + 6 ≤ length table → RowWritten k row table (sets table (6 * k) (numbers row))
 unfolding rowAt
-written k row table room =
+row-written k row table room =
     let first : (j : ℕ) → 6 * j + 0 ≡ 6 * j = (λ j. omega arith) in
     let after : List ℕ = sets table (6 * k) (numbers row) in
     let at : (i : ℕ) → i < 6 → getD after (6 * k + i) 0 ≡ getD (numbers row) i 0 =

@@ -10,7 +10,7 @@ use lib.ListN.{length, getD, set, drop, drop-of-length-le}
 use lib.Seq.{drop-cons}
 use Rattle.model.specs.Shares.{Ranges, Within, sum, sumOf}
 use Rattle.model.specs.Levels.{clamp, clamped, totalAt}
-use Rattle.model.specs.Laws.Levelled.{Between, within-sum-low}
+use Rattle.model.specs.Laws.Levelled.{LevelOrNext, within-sum-low}
 
 -- a product with a sum
 parts : (a b : ℕ) {c : ℕ} (x : ℕ) → a + b ≡ c → a * x + b * x ≡ c * x
@@ -34,7 +34,7 @@ module _ (f : ℕ → ℕ) where
       ]
 
   -- shares from those at w to those at w + 1 have as many parts moved from w to w + 1 as copies more: whoever takes them
-  pub between-sum : {lows highs xs : List ℕ} → Ranges lows highs → (w : ℕ) → Between w lows highs xs
+  pub between-sum : {lows highs xs : List ℕ} → Ranges lows highs → (w : ℕ) → LevelOrNext w lows highs xs
       → (left : ℕ) → sum xs ≡ totalAt lows highs w + left
       → sumOf f xs + left * f w ≡ sumOf f (clamped lows highs w) + left * f (suc w)
   unfolding sumOf clamped sum totalAt

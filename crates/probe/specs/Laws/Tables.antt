@@ -9,7 +9,7 @@ use Rattle.model.specs.Shares.{Ranges, greatestShare, greatestTotal, sumOf}
 use Rattle.model.specs.Levels.{clamp, clamped}
 use Rattle.model.specs.Laws.Level.{clamp-at-most}
 use Rattle.probe.specs.Inner.Spans.{Span}
-use Rattle.probe.specs.Inner.Tables.{Sound, itself, fromMean, square, greatestPart, Movable}
+use Rattle.probe.specs.Inner.Tables.{SoundWithTotal, itself, fromMean, square, greatestPart, Movable}
 
 abbrev pub Small : (ℕ → ℕ) → Type 0
 Small f = (x : ℕ) → x ≤ suc greatestShare → f x ≤ greatestPart
@@ -43,7 +43,7 @@ products-small m = (
 
 module _ {lows highs : List ℕ} {m w a b : ℕ} (span : Span lows highs m w a b) (f : ℕ → ℕ) {stored : ℕ} (held : stored ≡ sumOf f (clamped lows highs m)) where
   -- a sum at m may be moved to w
-  pub movable : {total : ℕ} → Sound lows highs total → a ≤ length lows → b ≤ length lows → w ≤ greatestShare → Small f → Movable stored a b (f m) (f w)
+  pub movable : {total : ℕ} → SoundWithTotal lows highs total → a ≤ length lows → b ≤ length lows → w ≤ greatestShare → Small f → Movable stored a b (f m) (f w)
   movable sound fewLows fewHighs share small = record {
     storedSmall = omega (arith, clamped-small (sound .ranges) small m, sound .few);
     upSmall = omega (arith, sound .few);

@@ -3,11 +3,12 @@ use Prim.Native.Nat.{ℕ, _*_, _≤_}
 use mathlib.Core.List.{List, _++_}
 use mathlib.Core.Path.{_≡_}
 use lib.ListN.{length, drop}
-use Rattle.job.specs.Job.{mostBytes, mostUnits}
+use Rattle.job.specs.Job.{mostBytes}
 use Rattle.works.specs.Called.{Cleared, opening}
 use Rattle.works.specs.Tables.{tableOf}
 use Rattle.report.specs.Lines.{refusalLine}
 use Rattle.report.specs.declared.Reporting.{Reporting}
+use Rattle.model.specs.Shares.{mostUnits}
 use Rattle.report.specs.declared.Reporting.the-variants.{Written, NoPlan, Refused}
 
 -- lists and a buffer with room for every job

@@ -8,7 +8,7 @@ use Rattle.model.specs.Laws.Lists.{ranges-at}
 use Rattle.model.specs.Laws.Plans.{found-plan, plan-found, least-above}
 use Rattle.model.specs.Levels.{levelled}
 use Rattle.model.specs.Shares.{Ranges}
-use Rattle.works.specs.Consistency.{Sound, Consistent}
+use Rattle.works.specs.Consistency.{SoundOpening, Consistent}
 use Rattle.works.specs.Laws.Members.{gather-length}
 use Rattle.works.specs.Laws.Passes.{sound-inside}
 use Rattle.works.specs.Laws.Settled.{settled-inside, settled-consistent}
@@ -19,7 +19,7 @@ use Rattle.report.specs.Reports.{levelledLine, groupLines}
 use Rattle.report.specs.Evenness.{Evenest, EvenLines}
 use Rattle.groups.specs.Memberships.{SoundGroup, unitOf}
 
-module _ {groups : List Group} {table : Table} (sound : Sound groups table) (consistent : Consistent groups table) where
+module _ {groups : List Group} {table : Table} (sound : SoundOpening groups table) (consistent : Consistent groups table) where
   -- the levelled shares are evenest
   pub levelled-evenest : (group : Group) → List·Memᴰ group groups
       → Evenest table group (levelled (lowsOf table group) (highsOf table group) (group .total))
@@ -48,7 +48,7 @@ lines-even table number (group ∷ groups) evenest =
     (lines-even table (suc number) groups (λ other member. evenest other (List·Memᴰ·tail member))))
 
 -- the group lines of a settled table
-pub settled-lines : {groups : List Group} {table final : Table} {passes : ℕ} → Sound groups table
+pub settled-lines : {groups : List Group} {table final : Table} {passes : ℕ} → SoundOpening groups table
     → settle groups table ≡ Outcome.settled final passes → EvenLines final 1 groups (groupLines 1 final groups)
 settled-lines {groups} {table} {final} sound e =
     let consistent : Consistent groups final = settled-consistent sound e in

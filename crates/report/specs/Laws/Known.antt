@@ -6,7 +6,7 @@ use Rattle.model.specs.Figures.{deviation, spread}
 use Rattle.model.specs.Levels.{clamped, totalAt, levelBelow, level, topped, remainder, levelled}
 use Rattle.text.specs.Words.{bytes}
 use Rattle.text.specs.Numbers.{digitsOf, printNumber}
-use Rattle.print.specs.Items.{item, items, form, line}
+use Rattle.print.specs.Items.{item, items, form, printedLine}
 use Rattle.model.specs.Known.{sameList}
 use Rattle.model.specs.Plans.{hasPlan, turnOf, firstUp, firstDown, narrowedLow, narrowedHigh, tabulate, narrowedLows, narrowedHighs}
 use Rattle.works.specs.Tables.{widths, gather, scatter}
@@ -21,12 +21,12 @@ use Rattle.report.specs.Reports.{unitLines, levelledLine, groupLines, re
 use Rattle.report.specs.Known.{exampleReport, exampleText}
 
 pub example-report : printed example (settle example exampleTable) ≡ exampleReport
-unfolding printed reportOf groupLines levelledLine unitLines groupLine line form items item flatten printNumber digitsOf exampleReport example exampleTable settle settleFrom passFrom revise narrowed widths gather scatter sameList sum sumOf deviation spread clamped totalAt levelBelow level topped remainder levelled hasPlan turnOf firstUp firstDown narrowedLow narrowedHigh tabulate narrowedLows narrowedHighs
+unfolding printed reportOf groupLines levelledLine unitLines groupLine printedLine form items item flatten printNumber digitsOf exampleReport example exampleTable settle settleFrom passFrom revise narrowed widths gather scatter sameList sum sumOf deviation spread clamped totalAt levelBelow level topped remainder levelled hasPlan turnOf firstUp firstDown narrowedLow narrowedHigh tabulate narrowedLows narrowedHighs
 example-report = refl
 
 -- 01: "A refusal prints one line"
 pub example-refusal : refusalLine 12 1 ≡ bytes "(refused 12 1)\n"
-unfolding line form items item flatten printNumber digitsOf
+unfolding printedLine form items item flatten printNumber digitsOf
 example-refusal = refl
 
 example-lines : exampleText ≡ printLines workedLines
@@ -40,5 +40,5 @@ example-printed = ap printedOf example-lines ∙ ap printedRead worked-reads ∙
 
 -- 01: "Empty text is 10"
 pub empty-printed : printedOf [] ≡ bytes "(refused 10 0)\n"
-unfolding printedOf printedRead readJob readLines someUnit line form items item flatten printNumber digitsOf
+unfolding printedOf printedRead readJob readLines someUnit printedLine form items item flatten printNumber digitsOf
 empty-printed = refl

@@ -14,7 +14,7 @@ use Rattle.model.specs.Shares.{Ranges, Within}
 use Rattle.model.specs.declared.Figures.{Figures}
 use Rattle.text.specs.Words.{bytes}
 use Rattle.group.specs.Laws.Bounds.{share-small, squares-small, deviation-small}
-use Rattle.group.specs.Sound.{Sound, HasShares}
+use Rattle.group.specs.Sound.{SoundRanges, HasShares}
 use Rattle.group.specs.Laws.Sound.{levelled-length, highs-small}
 use Rattle.groups.specs.Memberships.{memberships}
 use Rattle.job.specs.Job.{mostBytes}
@@ -106,7 +106,7 @@ levelled-line-length : {lows highs : List ℕ} {total : ℕ} → HasShares lows 
 unfolding levelledLine spread
 levelled-line-length {lows} {highs} {total} shares number p =
     let xs : List ℕ = levelled lows highs total in
-    let sound : Sound lows highs = shares .sound in
+    let sound : SoundRanges lows highs = shares .sound in
     let within : Within lows highs xs = levelled-within (sound .ranges) total in
     omega (
       arith,

@@ -13,7 +13,7 @@ use Rattle.job.specs.TextLines.{linesOf}
 use Rattle.model.specs.Groups.{Group}
 use Rattle.model.specs.Laws.Lists.{ranges-length}
 use Rattle.works.specs.Called.{Cleared, groups, count, opening, called, after}
-use Rattle.works.specs.Laws.Called.{Ends, says, ends, settled-not, called-bound, called-refusal}
+use Rattle.works.specs.Laws.Called.{CallEnds, says, ends, settled-not, called-bound, called-refusal}
 use Rattle.works.specs.Called as settling
 use Rattle.works.specs.Laws.Checked.{passed-room}
 use Rattle.works.specs.Reordering.{reordered-cleared}
@@ -31,7 +31,7 @@ use Rattle.report.specs.Promises.{outcome, left}
 use Rattle.report.specs.Laws.Promises.{reports, same-table, written-settled, written-report, written-promised}
 use Rattle.report.specs.Reports.{lineOf, reportOf}
 use Rattle.report.specs.declared.Reporting.the-variants.{Written, NoPlan}
-use Rattle.report.specs.Orders.{passesIn, WithoutPlan, report, SameLines, SameReports}
+use Rattle.report.specs.Orders.{reportPasses, ReportedWithoutPlan, report, SameLines, SameReports}
 
 module _ {text lows highs : List ℕ} {scratch : ℕ} (cleared : Cleared text lows highs scratch) (buffer : List ℕ)
     (long : mostBytes ≤ length buffer) where
@@ -41,12 +41,12 @@ module _ {text lows highs : List ℕ} {scratch : ℕ} (cleared : Cleared text lo
     refused : (number place passes : ℕ) → called cleared .answer ≡ works.NoPlan number place passes
         → outcome cleared buffer long ≡ reported (NoPlan number place passes) lows highs buffer → Reports
 
-  by-end : Ends cleared → Reports
-  by-end (Ends.settled passes is said) =
+  by-end : CallEnds cleared → Reports
+  by-end (CallEnds.settled passes is said) =
       let settles : called cleared .answer ≡ works.Settled passes = says said in
       Reports.written (length (reportOf (groups cleared) (after cleared) passes)) passes
       (ap (λ (r : Reported). r .answer) (reports cleared buffer long) ∙ rw settles)
-  by-end (Ends.refused number place passes is said) = Reports.refused number place passes (says said) (reports cleared buffer long ∙ rw said)
+  by-end (CallEnds.refused number place passes is said) = Reports.refused number place passes (says said) (reports cleared buffer long ∙ rw said)
 
   -- a refusal for want of a plan says 11 or 12 and the place of a group, and table and buffer hold what they held
   pub report-refusal : {number place passes : ℕ} → outcome cleared buffer long .answer ≡ NoPlan number place passes
@@ -65,10 +65,10 @@ module _ {text lows highs : List ℕ} {scratch : ℕ} (cleared : Cleared text lo
           rw (← at-number, ← at-place, ← at-passes) (called-refusal cleared none .0, is)
 
   -- the passes are at most 1 plus the sum of high − low over the opening table
-  pub report-bound : passesIn (outcome cleared buffer long .answer) ≤ suc (width (opening cleared))
+  pub report-bound : reportPasses (outcome cleared buffer long .answer) ≤ suc (width (opening cleared))
   report-bound = bound (by-end (ends cleared))
     where
-      bound : Reports → passesIn (outcome cleared buffer long .answer) ≤ suc (width (opening cleared))
+      bound : Reports → reportPasses (outcome cleared buffer long .answer) ≤ suc (width (opening cleared))
       bound (Reports.written size passes is) = rw is (rw (written-settled cleared buffer long is) at (called-bound cleared))
       bound (Reports.refused number place passes none is) = rw is (rw none at (called-bound cleared))
 

@@ -6,10 +6,10 @@ use native.Mathlib.Omega.{arith}
 use lib.ListN.{length, take, drop, length-append}
 use lib.Seq.{take-at}
 use Rattle.group.specs.declared.Check.the-variants.{Passed}
-use Rattle.job.specs.Job.{Outcome, accepted, refused, mostBytes, mostUnits, readJob}
-use Rattle.job.specs.Reading.{readTable, Filled}
+use Rattle.job.specs.Job.{JobOrRefusal, accepted, refused, mostBytes, readJob}
+use Rattle.job.specs.Reading.{readTable, ReadInto}
 use Rattle.job.specs.Laws.Reading.{accepted-by, refused-by, table-fits, table-refused}
-use Rattle.job.specs.Sound.{Sound}
+use Rattle.job.specs.Sound.{SoundJob}
 use Rattle.job.specs.Laws.Sound.{accepted-sound}
 use Rattle.job.specs.declared.Reading.{Reading}
 use Rattle.job.specs.declared.Reading.the-variants as reading
@@ -17,7 +17,7 @@ use Rattle.model.specs.Laws.Lists.{ranges-length}
 use Rattle.model.specs.declared.Refusal.{Refusal}
 use Rattle.works.specs.Calls.{Settlement, checkTable}
 use Rattle.works.specs.Called.{Cleared, groups, count, opening, called, after}
-use Rattle.works.specs.Laws.Called.{Ends, says, ends}
+use Rattle.works.specs.Laws.Called.{CallEnds, says, ends}
 use Rattle.works.specs.Laws.Checked.{Roomy, ranges-pass}
 use Rattle.works.specs.Settling.{settle}
 use Rattle.works.specs.Tables.{Table, tableOf}
@@ -30,6 +30,7 @@ use Rattle.report.specs.Reports.{reportOf, printed}
 use Rattle.report.specs.declared.Reporting.{Reporting}
 use Rattle.report.specs.declared.Reporting.the-variants.{Written, NoPlan}
 use Rattle.report.specs.Inner.Printed.{Opened, sizePrinted, bufferPrinted}
+use Rattle.model.specs.Shares.{mostUnits}
 
 -- a refusal's line at the start of a buffer, where it is what is printed
 pub refusal-printed : {bytes line entry buffer exit : List ℕ} {size : ℕ} → bytes ≡ line → buffer ≡ entry → size ≡ length line
@@ -40,14 +41,14 @@ refusal-printed is kept counted holds = rw (is, ← kept, counted, holds) (refl,
 table-holds : (text : List ℕ) (a b : ℕ) → mostUnits ≤ a → mostUnits ≤ b → readTable text a b ≡ readJob text
 table-holds text a b p q = by-outcome (readJob text) refl
   where
-    by-outcome : (outcome : Outcome) → readJob text ≡ outcome → readTable text a b ≡ readJob text
+    by-outcome : (outcome : JobOrRefusal) → readJob text ≡ outcome → readTable text a b ≡ readJob text
     by-outcome (accepted found) e =
         let few = accepted-sound text found e .built .few-units in
         table-fits text a b found e (omega (arith, few)) (omega (arith, few)) ∙ sym e
     by-outcome (refused refusal) e = table-refused text a b refusal e ∙ sym e
 
 -- what reading a text into such a table answers and leaves
-module _ {text lows₀ highs₀ lows highs : List ℕ} {answer : Reading} (filled : Filled text lows₀ highs₀ lows highs answer)
+module _ {text lows₀ highs₀ lows highs : List ℕ} {answer : Reading} (filled : ReadInto text lows₀ highs₀ lows highs answer)
     (forLows : mostUnits ≤ length lows₀) (forHighs : mostUnits ≤ length highs₀) where
   holds : readTable text (length lows₀) (length highs₀) ≡ readJob text
   holds = table-holds text (length lows₀) (length highs₀) forLows forHighs
@@ -66,7 +67,7 @@ module _ {text lows₀ highs₀ lows highs : List ℕ} {answer : Reading} (fille
   read-opens {units} {listed} reads scratch forScratch =
       let (found, accepts, counts, lists) = accepted-by _ units listed (sym reads ∙ filled .answer) in
       let job-is : readJob text ≡ accepted found = sym holds ∙ accepts in
-      let sound : Sound found = accepted-sound text found job-is in
+      let sound : SoundJob found = accepted-sound text found job-is in
       let n : ℕ = length (found .lows) in
       let lows-are : lows ≡ found .lows ++ drop n lows₀ = rw accepts at (filled .lows-are) in
       let highs-are : highs ≡ found .highs ++ drop n highs₀ = rw accepts at (filled .highs-are) in
@@ -113,16 +114,16 @@ module _ {text lows highs : List ℕ} {scratch : ℕ} (opened : Opened text lows
     none : (number place passes : ℕ) → printedOf text ≡ refusalLine number place
         → outcome ≡ reported (NoPlan number place passes) lows highs buffer → Prints
 
-  by-end : Ends cleared → Prints
+  by-end : CallEnds cleared → Prints
   unfolding printed
-  by-end (Ends.settled passes settles said) =
+  by-end (CallEnds.settled passes settles said) =
       let report-is : printedOf text ≡ reportOf (groups cleared) (after cleared) passes =
       printed-opening ∙ ap (printed (groups cleared)) settles in
       Prints.written passes (called cleared .lows) (called cleared .highs)
       (reports cleared buffer long
       ∙ ap (λ (answer : Settling). reportBy (groups cleared) (count cleared) answer (called cleared .lows) (called cleared .highs) buffer) (says said)
       ∙ ap (writing passes (called cleared .lows) (called cleared .highs)) (sym report-is))
-  by-end (Ends.refused number place passes settles said) =
+  by-end (CallEnds.refused number place passes settles said) =
       Prints.none number place passes
       (printed-opening ∙ ap (printed (groups cleared)) settles)
       (reports cleared buffer long

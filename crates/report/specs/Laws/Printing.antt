@@ -9,7 +9,7 @@ use lib.ListN.{length, take, drop}
 use lib.Seq.{take-at}
 use Rattle.group.specs.Laws.Sound.{levelled-length}
 use Rattle.group.specs.Levelling.{levelledTo, planAfter}
-use Rattle.group.specs.Sound.{greatestCount}
+use Rattle.model.specs.Shares.{mostUnits}
 use Rattle.group.specs.declared.Levelling.{Levelling}
 use Rattle.group.specs.declared.Levelling.the-variants.{Levelled}
 use Rattle.groups.specs.Inner.Flat.{storedAt, groupIn, groupsIn}
@@ -29,7 +29,7 @@ use Rattle.report.specs.Reports.{levelledLine, lineOf, groupLines}
 
 module _ {table : Table} {group : Group} (levelable : Levelable table group) where
   -- a group that can be levelled has at most 256 members
-  pub count-few : size group ≤ greatestCount
+  pub count-few : size group ≤ mostUnits
   count-few = omega (arith, gather-length (table .lows) (group .members), levelable .shares .sound .few)
 
   -- levelling it answers with the level, the figures and the levelled shares

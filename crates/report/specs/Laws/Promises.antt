@@ -9,7 +9,7 @@ use borrow.Author.Tests.{le-leb}
 use lib.Dec.{leb}
 use lib.ListN.{length, take, drop, length-append}
 use mathlib.Core.Bool.{Bool, true, false}
-use Rattle.job.specs.Job.{mostBytes, refusal, readJob}
+use Rattle.job.specs.Job.{mostBytes, readJob}
 use Rattle.model.specs.Groups.{Group}
 use Rattle.model.specs.Shares.{pick}
 use Rattle.works.specs.Calls.{settlement, settleText}
@@ -25,6 +25,7 @@ use Rattle.report.specs.Laws.Evenness.{settled-lines}
 use Rattle.report.specs.Reports.{reportOf}
 use Rattle.report.specs.declared.Reporting.the-variants.{Written, NoPlan, Refused}
 use Rattle.report.specs.Promises.{Promised, outcome, left}
+use Rattle.model.specs.Refusals.{refusal}
 
 -- what an outcome answers
 says : {a b : Reported} → a ≡ b → a .answer ≡ b .answer

@@ -12,11 +12,11 @@ use Rattle.group.specs.declared.Check.the-variants.{Passed, Failed}
 use Rattle.groups.specs.Memberships.{memberships, SoundGroup}
 use Rattle.groups.specs.Inner.Flat.{groupsIn}
 use Rattle.groups.specs.Laws.Reading.{groups-counted}
-use Rattle.job.specs.Job.{mostUnits, mostGroups, mostMemberships}
+use Rattle.job.specs.Job.{mostGroups, mostMemberships}
 use Rattle.model.specs.Groups.{Group}
 use Rattle.model.specs.Laws.Levelled.{within-sum-low, within-sum-high}
-use Rattle.works.specs.Calls.{Settlement, settlement, checkTable, leaving, afterCheck, settleJob}
-use Rattle.works.specs.Consistency.{Sound, Consistent, PlanIn}
+use Rattle.works.specs.Calls.{Settlement, settlement, checkTable, leaving, settledAfter, settleJob}
+use Rattle.works.specs.Consistency.{SoundOpening, Consistent, PlanIn}
 use Rattle.works.specs.Laws.Checked.{passed-room, passed-opening}
 use Rattle.works.specs.Laws.Sizes.{size-few}
 use Rattle.works.specs.Laws.Inside.{widths-sums}
@@ -32,9 +32,10 @@ use Rattle.works.specs.declared.Settling.the-variants as works
 use Rattle.report.specs.Laws.Evenness.{levelled-evenest}
 use Rattle.report.specs.Ready.{Levelable, Reportable}
 use Rattle.report.specs.Inner.Ready.{WithinLimits, Answerable}
+use Rattle.model.specs.Shares.{mostUnits}
 
 -- a group that has a plan in the table can be levelled there
-levelable : {table : Table} {group : Group} {xs : List ℕ} → SoundGroup (units table) group → one.Sound (lowsOf table group) (highsOf table group)
+levelable : {table : Table} {group : Group} {xs : List ℕ} → SoundGroup (units table) group → one.SoundRanges (lowsOf table group) (highsOf table group)
     → PlanIn table group xs → Levelable table group
 levelable sound ranges plan = record {
   named = record { below = sound .below };
@@ -46,13 +47,13 @@ levelable sound ranges plan = record {
 }
 
 -- a settled table of a job within the limits of 01 can be reported
-pub reportable : {groups : List Group} {table final : Table} {passes : ℕ} → Sound groups table → units table ≤ mostUnits
+pub reportable : {groups : List Group} {table final : Table} {passes : ℕ} → SoundOpening groups table → units table ≤ mostUnits
     → length groups ≤ mostGroups → memberships groups ≤ mostMemberships
     → settle groups table ≡ Outcome.settled final passes → Reportable groups final passes
 reportable {groups} {table} {final} {passes} sound few-units few-groups few-memberships e =
     let consistent : Consistent groups final = settled-consistent sound e in
     let same : units final ≡ units table = settled-inside sound e .sameLows in
-    let sound-final : Sound groups final = sound-inside sound (consistent .valid) (settled-inside sound e) in
+    let sound-final : SoundOpening groups final = sound-inside sound (consistent .valid) (settled-inside sound e) in
     let bound : passesOf (Outcome.settled final passes) ≤ _ = rw e at (passes-bound sound) in
     record {
       valid = consistent .valid;
@@ -72,7 +73,7 @@ reportable {groups} {table} {final} {passes} sound few-units few-groups few-memb
 pub record Settles (groups : List Group) (unitCount : ℕ) (lows highs nextLows nextHighs : List ℕ) (passes : ℕ) : Type 0 where
   pub forLows : unitCount ≤ length lows
   pub forHighs : unitCount ≤ length highs
-  pub sound : Sound groups (tableOf (take unitCount lows) (take unitCount highs))
+  pub sound : SoundOpening groups (tableOf (take unitCount lows) (take unitCount highs))
   pub few : length (take unitCount lows) ≤ mostUnits
   pub settles : settle groups (tableOf (take unitCount lows) (take unitCount highs))
       ≡ Outcome.settled (tableOf (take unitCount nextLows) (take unitCount nextHighs)) passes
@@ -123,7 +124,7 @@ module _ {flat : List ℕ} {count unitCount : ℕ} (prepared : Prepared flat cou
           }
 
       by-check : (check : Check) → checkTable unitCount lows highs scratch ≡ check
-          → settlement (works.Settled passes) nextLows nextHighs ≡ afterCheck check lows highs (leaving (settle groups opening) unitCount lows highs)
+          → settlement (works.Settled passes) nextLows nextHighs ≡ settledAfter check lows highs (leaving (settle groups opening) unitCount lows highs)
           → Settles groups unitCount lows highs nextLows nextHighs passes
       by-check (Failed refusal) e is =
           let answers : works.Settled passes ≡ works.Refused refusal = ap (λ (s : Settlement). s .answer) is in

@@ -5,7 +5,7 @@ use mathlib.Core.Path.{_≡_, sym, ap, _∙_}
 use native.Mathlib.Omega.{arith}
 use borrow.Author.Tests.{le-leb, lt-leb}
 use lib.ListN.{length, take, drop}
-use Rattle.job.specs.Job.{Job, refusal, mostBytes, readJob, accepted}
+use Rattle.job.specs.Job.{Job, mostBytes, readJob, accepted}
 use Rattle.job.specs.Inner.Reading.{GroupsScanned}
 use Rattle.job.specs.Laws.Reading.{accepted-by}
 use Rattle.job.specs.Laws.Sound.{accepted-sound}
@@ -24,6 +24,7 @@ use Rattle.works.specs.declared.Settling.the-variants as works
 use Rattle.report.specs.Calls.{reported, reportBy, reportSettled, reportText}
 use Rattle.report.specs.Inner.Ready.{WithinLimits}
 use Rattle.report.specs.Reports.{reportOf}
+use Rattle.model.specs.Refusals.{refusal}
 use Rattle.report.specs.declared.Reporting.the-variants.{Written, Refused}
 
 module _ (groups : List Group) (units : ℕ) {lows highs : List ℕ} (buffer : List ℕ) where

@@ -40,11 +40,11 @@ use denote.Triple.Walked.{says, Stays, stay-none-slice, gave-slice, walkOf, AllG
 use denote.Exit.{yes}
 use Rattle.table.specs.declared.Range.{Range}
 use Rattle.table.specs.declared.ReadBounds.{ReadBounds}
-use Rattle.table.specs.Tables.{lowsOf, highsOf}
+use Rattle.table.specs.Tables.{lowsIn, highsIn}
 use Rattle.table.specs.Inner.Tables.{ranges, boundsOf, afterReading}
 use Rattle.table.specs.Laws.Lists.{over-length}
 use Rattle.table.specs.Laws.Fronts.{putBack, read-table}
-use Rattle.job.specs.Reading.{Filled}
+use Rattle.job.specs.Reading.{ReadInto}
 use Rattle.job.proofs.Closing.{proved}
 use Rattle.job.proofs.Lending.{sliceAt}
 use Rattle.job.proofs.Passing.{passes-on}
@@ -120,7 +120,7 @@ module _ {M : Type 1} (𝓤 : URA M) (H : Heap 𝓤) (A : Atoms 𝓤) (W : Given
   exits r e js is =
       qed W ((‵ (flft κ₀ q₀) ⊛ ‵ ftrue) ∷ ‵ (flft κ q) ∷ ‵ Text ∷ ‵ (finally T.the-row γ (left r)) ∷ []) ∵
       suffices ! _ (ends-at 𝓤 H A read.ended stayed (read.clauses 𝓤 H A mem run) W (((κ₀, (κ, tt)), (q₀, (q, tt)), tt, a, at), tt) (answered r) (r .answer) (tt, (left r, tt)) (tt, (over-length (r .bounds .count) (ranges (r .bounds .lows) (r .bounds .highs)) ys, tt))) $
-      says ! (subst (λ (z : ReadBounds). Filled bs (lowsOf ys) (highsOf ys) (lowsOf (left z)) (highsOf (left z)) (z .answer)) (sym e) (read-table bs ys (ap (λ (z : ReadBounds). length (z .bounds .lows)) (sym e) ∙ lows-length (r .bounds) js) (ap (λ (z : ReadBounds). length (z .bounds .highs)) (sym e) ∙ highs-length (r .bounds) js))) $
+      says ! (subst (λ (z : ReadBounds). ReadInto bs (lowsIn ys) (highsIn ys) (lowsIn (left z)) (highsIn (left z)) (z .answer)) (sym e) (read-table bs ys (ap (λ (z : ReadBounds). length (z .bounds .lows)) (sym e) ∙ lows-length (r .bounds) js) (ap (λ (z : ReadBounds). length (z .bounds .highs)) (sym e) ∙ highs-length (r .bounds) js))) $
       split ! $ move ! (2 ∷ 1 ∷ []) $ join ! $ move ! (1 ∷ 0 ∷ []) $ join ! $ frame ! $
       nothing ! $ move ! (2 ∷ 0 ∷ []) $ fjoin ! $ move ! (1 ∷ 0 ∷ []) $ fjoin ! $ frame ! $ owned ! S.the-row (Is S.the-row) (EL.makes S.the-type S′.the-plain 𝓤 H A) (r .answer) _ is $ done !
 

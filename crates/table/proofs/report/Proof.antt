@@ -40,7 +40,7 @@ use denote.Triple.Walked.{says, Stays, stay-none-slice, gave-slice, walkOf, AllG
 use denote.Exit.{yes}
 use Rattle.table.specs.declared.Range.{Range}
 use Rattle.table.specs.declared.ReportedBounds.{ReportedBounds}
-use Rattle.table.specs.Tables.{lowsOf, highsOf}
+use Rattle.table.specs.Tables.{lowsIn, highsIn}
 use Rattle.table.specs.Inner.Tables.{ranges, boundsOf, afterReporting, bufferAfter}
 use Rattle.table.specs.Laws.Lists.{over-length}
 use Rattle.table.specs.Laws.Fronts.{putBack, reported-table}
@@ -129,7 +129,7 @@ module _ {M : Type 1} (𝓤 : URA M) (H : Heap 𝓤) (A : Atoms 𝓤) (W : Given
   exits r us′ ds′ e len len₃ js is =
       qed W ((‵ (flft κ₀ q₀) ⊛ ‵ (flft κ₂ q₂) ⊛ ‵ (flft κ₃ q₃) ⊛ ‵ ftrue) ∷ ‵ (flft κ q) ∷ ‵ (ShrSlice (named 0) κ₀ u8 .own (a .0) (s₀ ∷ [])) ∷ ‵ (finally T.the-row γ (left r)) ∷ ‵ (finally u64 γ₂ us′) ∷ ‵ (finally u8 γ₃ ds′) ∷ []) ∵
       suffices ! _ (ends-at 𝓤 H A report.ended stayed (report.clauses 𝓤 H A mem run) W (((κ₀, (κ, (κ₂, (κ₃, tt)))), (q₀, (q, (q₂, (q₃, tt)))), tt, a, at), tt) (answered r) (r .answer) (tt, (left r, (us′, (ds′, tt)))) (tt, (over-length (r .bounds .count) (ranges (r .bounds .lows) (r .bounds .highs)) ys, (len, (len₃, tt))))) $
-      says ! ((λ i. reported (e .0 i .answer) (lowsOf (left (e .0 i))) (highsOf (left (e .0 i))) (e .1 i))
+      says ! ((λ i. reported (e .0 i .answer) (lowsIn (left (e .0 i))) (highsIn (left (e .0 i))) (e .1 i))
       ∙ reported-table bs ys (length us) ds (ap (λ (z : ReportedBounds). length (z .bounds .lows)) (sym (e .0)) ∙ lows-length (r .bounds) js) (ap (λ (z : ReportedBounds). length (z .bounds .highs)) (sym (e .0)) ∙ highs-length (r .bounds) js)) $
       split3 ! $ move ! (1 ∷ 2 ∷ []) $ join ! $ move ! (2 ∷ 0 ∷ []) $ join ! $ move ! (1 ∷ 0 ∷ []) $ join ! $ frame ! $
       nothing ! $ move ! (4 ∷ 0 ∷ []) $ fjoin ! $ move ! (3 ∷ 0 ∷ []) $ fjoin ! $ move ! (2 ∷ 0 ∷ []) $ fjoin ! $ move ! (1 ∷ 0 ∷ []) $ fjoin ! $ frame ! $ owned ! S.the-row (Is S.the-row) (EL.makes S.the-type S′.the-plain 𝓤 H A) (r .answer) _ is $ done !

@@ -40,7 +40,7 @@ use denote.Triple.Walked.{says, Stays, stay-none-slice, gave-slice, walkOf, AllG
 use denote.Exit.{yes}
 use Rattle.table.specs.declared.Range.{Range}
 use Rattle.table.specs.declared.SettledBounds.{SettledBounds}
-use Rattle.table.specs.Tables.{lowsOf, highsOf}
+use Rattle.table.specs.Tables.{lowsIn, highsIn}
 use Rattle.table.specs.Inner.Tables.{ranges, boundsOf, afterSettling}
 use Rattle.table.specs.Laws.Lists.{over-length}
 use Rattle.table.specs.Laws.Fronts.{putBack, settled-table}
@@ -122,7 +122,7 @@ module _ {M : Type 1} (𝓤 : URA M) (H : Heap 𝓤) (A : Atoms 𝓤) (W : Given
   exits r e us′ len js is =
       qed W ((‵ (flft κ₀ q₀) ⊛ ‵ (flft κ₂ q₂) ⊛ ‵ ftrue) ∷ ‵ (flft κ q) ∷ ‵ (ShrSlice (named 0) κ₀ u8 .own (a .0) (s₀ ∷ [])) ∷ ‵ (finally T.the-row γ (left r)) ∷ ‵ (finally u64 γ₂ us′) ∷ []) ∵
       suffices ! _ (ends-at 𝓤 H A settle.ended stayed (settle.clauses 𝓤 H A mem run) W (((κ₀, (κ, (κ₂, tt))), (q₀, (q, (q₂, tt))), tt, a, at), tt) (answered r) (r .answer) (tt, (left r, (us′, tt))) (tt, (over-length (r .bounds .count) (ranges (r .bounds .lows) (r .bounds .highs)) ys, (len, tt)))) $
-      says ! (ap (λ (z : SettledBounds). settlement (z .answer) (lowsOf (left z)) (highsOf (left z))) e ∙ settled-table bs ys (length us) (ap (λ (z : SettledBounds). length (z .bounds .lows)) (sym e) ∙ lows-length (r .bounds) js) (ap (λ (z : SettledBounds). length (z .bounds .highs)) (sym e) ∙ highs-length (r .bounds) js)) $
+      says ! (ap (λ (z : SettledBounds). settlement (z .answer) (lowsIn (left z)) (highsIn (left z))) e ∙ settled-table bs ys (length us) (ap (λ (z : SettledBounds). length (z .bounds .lows)) (sym e) ∙ lows-length (r .bounds) js) (ap (λ (z : SettledBounds). length (z .bounds .highs)) (sym e) ∙ highs-length (r .bounds) js)) $
       split3 ! $ move ! (1 ∷ 2 ∷ []) $ join ! $ move ! (2 ∷ 0 ∷ []) $ join ! $ move ! (1 ∷ 0 ∷ []) $ join ! $ frame ! $
       nothing ! $ move ! (3 ∷ 0 ∷ []) $ fjoin ! $ move ! (2 ∷ 0 ∷ []) $ fjoin ! $ move ! (1 ∷ 0 ∷ []) $ fjoin ! $ frame ! $ owned ! S.the-row (Is S.the-row) (EL.makes S.the-type S′.the-plain 𝓤 H A) (r .answer) _ is $ done !
 

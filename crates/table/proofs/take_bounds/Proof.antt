@@ -50,7 +50,7 @@ use denote.Exit.{yes}
 use Rattle.table.specs.declared.Range.{Range}
 use Rattle.table.specs.declared.Bounds.{Bounds}
 use Rattle.table.specs.Inner.Tables.{over, zeros}
-use Rattle.table.specs.Tables.{lowsOf, highsOf}
+use Rattle.table.specs.Tables.{lowsIn, highsIn}
 use Rattle.table.specs.Laws.Lists.{over-length, over-map, zeros-are, zeros-length}
 use Rattle.job.proofs.Closing.{proved}
 use Rattle.job.proofs.Releasing.{releases}
@@ -110,9 +110,9 @@ module _ {M : Type 1} (𝓤 : URA M) (H : Heap 𝓤) (A : Atoms 𝓤) (W : Given
 
   -- what is handed back
   abbrev taken : Bounds
-  taken = record { lows = over n (lowsOf ys) zeros; highs = over n (highsOf ys) zeros; count = n }
+  taken = record { lows = over n (lowsIn ys) zeros; highs = over n (highsIn ys) zeros; count = n }
 
-  exits : (v w : Val) → Is (Array u64 256) (over n (lowsOf ys) zeros) (v ∷ []) → Is (Array u64 256) (over n (highsOf ys) zeros) (w ∷ [])
+  exits : (v w : Val) → Is (Array u64 256) (over n (lowsIn ys) zeros) (v ∷ []) → Is (Array u64 256) (over n (highsIn ys) zeros) (w ∷ [])
       → ent 𝓤 (⋆ 𝓤 H A (‵ (flft κ q) ∷ ‵ (fres γ (codedHoleys R .code (heres R ys))) ∷ ‵ (fshr-bor κ (λ t. arr-parts (shares R) (length ys) .part t ys b o)) ∷ [])) (Post (boundsVal taken v w))
   exits v w is js =
       qed W (‵ (flft κ q) ∷ ‵ (fres γ (codedHoleys R .code (heres R ys))) ∷ ‵ (fshr-bor κ (λ t. arr-parts (shares R) (length ys) .part t ys b o)) ∷ []) ∵
@@ -140,7 +140,7 @@ module _ {M : Type 1} (𝓤 : URA M) (H : Heap 𝓤) (A : Atoms 𝓤) (W : Given
 
     -- the first i numbers of both arrays are the table's
     abbrev At : ℕ → List (Item 𝓤)
-    At i = ‵ (row u64 fullShare (over i (lowsOf ys) zeros) l₂ 0) ∷ ‵ (row u64 fullShare (over i (highsOf ys) zeros) l₃ 0) ∷ ‵ (row R q′ ys b o) ∷ ‵ (fat fullShare word l₅ 0 (vint w64 i))
+    At i = ‵ (row u64 fullShare (over i (lowsIn ys) zeros) l₂ 0) ∷ ‵ (row u64 fullShare (over i (highsIn ys) zeros) l₃ 0) ∷ ‵ (row R q′ ys b o) ∷ ‵ (fat fullShare word l₅ 0 (vint w64 i))
         ∷ ‵ (froom T′.mir l₆ 0) ∷ ‵ (froom tyBool l₈ 0) ∷ ‵ (froom word l₉ 0) ∷ ‵ (froom tyPtr l₁₀ 0) ∷ ‵ (froom T′.mir l₁₁ 0) ∷ ‵ (froom tyPtr l₁₂ 0) ∷ ‵ (froom tyPtr l₁₃ 0) ∷ ‵ (froom tyPtr l₁₄ 0) ∷ ‵ (froom tyPtr l₁₅ 0) ∷ Frame
 
     abbrev Left : Out → SProp 𝓤
@@ -175,17 +175,17 @@ module _ {M : Type 1} (𝓤 : URA M) (H : Heap 𝓤) (A : Atoms 𝓤) (W : Given
         assigns ! (addr ! (from ! (stop !))) (from ! (stop !)) (init ! 9 refl (tt, tt)) $
         assigns ! (bin ! (load ! (from ! (stop !)) (look ! 9 refl)) (load ! (from ! (stop !)) (look ! 6 refl)) tt) (from ! (stop !)) (init ! 10 refl (tt, tt)) $
         rewrite ! 10 (λ (p : ℕ). ‵ (fat fullShare tyPtr l₁₃ 0 (vptr l₂ p))) (sym (place-is 8 0 i)) refl $ move ! (1 ∷ []) $
-        number-out ! (over i (lowsOf ys) zeros) i l₂ (in-over i small (lowsOf ys)) (λ _.
+        number-out ! (over i (lowsIn ys) zeros) i l₂ (in-over i small (lowsIn ys)) (λ _.
         assigns ! (of-opd ! (load ! (from ! (fld ! refl (stop !))) (look-in ! 6 (sub ! 0 refl (whole !))))) (from ! (hop ! (look ! 12 refl) (stop !))) (store ! 0 refl (tt, record { fits = low-fits g })) $
-        number-put ! (over i (lowsOf ys) zeros) (over (suc i) (lowsOf ys) zeros) i (getD ys i none .low) l₂ (in-over i small (lowsOf ys)) (low-fits g) (over-map (λ r. r .low) i ys zeros none (in-table i small)) $
+        number-put ! (over i (lowsIn ys) zeros) (over (suc i) (lowsIn ys) zeros) i (getD ys i none .low) l₂ (in-over i small (lowsIn ys)) (low-fits g) (over-map (λ r. r .low) i ys zeros none (in-table i small)) $
         -- and its high to place i of the highs
         assigns ! (bin ! (load ! (from ! (stop !)) (look ! 3 refl)) (lit ! tt) (record { fits = number-fits i small })) (from ! (stop !)) (store ! 6 refl (tt, record { fits = number-fits i small })) $
         assigns ! (addr ! (from ! (stop !))) (from ! (stop !)) (init ! 11 refl (tt, tt)) $
         assigns ! (bin ! (load ! (from ! (stop !)) (look ! 11 refl)) (load ! (from ! (stop !)) (look ! 6 refl)) tt) (from ! (stop !)) (init ! 12 refl (tt, tt)) $
         rewrite ! 12 (λ (p : ℕ). ‵ (fat fullShare tyPtr l₁₅ 0 (vptr l₃ p))) (sym (place-is 8 0 i)) refl $ move ! (2 ∷ []) $
-        number-out ! (over i (highsOf ys) zeros) i l₃ (in-over i small (highsOf ys)) (λ _.
+        number-out ! (over i (highsIn ys) zeros) i l₃ (in-over i small (highsIn ys)) (λ _.
         assigns ! (of-opd ! (load ! (from ! (fld ! refl (stop !))) (look-in ! 6 (sub ! 1 refl (whole !))))) (from ! (hop ! (look ! 14 refl) (stop !))) (store ! 0 refl (tt, record { fits = high-fits g })) $
-        number-put ! (over i (highsOf ys) zeros) (over (suc i) (highsOf ys) zeros) i (getD ys i none .high) l₃ (in-over i small (highsOf ys)) (high-fits g) (over-map (λ r. r .high) i ys zeros none (in-table i small)) $
+        number-put ! (over i (highsIn ys) zeros) (over (suc i) (highsIn ys) zeros) i (getD ys i none .high) l₃ (in-over i small (highsIn ys)) (high-fits g) (over-map (λ r. r .high) i ys zeros none (in-table i small)) $
         assigns-last ! (bin ! (load ! (from ! (stop !)) (look ! 3 refl)) (lit ! tt) (record { fits = next-fits i small })) (from ! (stop !)) (store ! 3 refl (tt, record { fits = next-fits i small })) $
         rewrite ! 3 (λ (j : ℕ). ‵ (fat fullShare word l₅ 0 (vint w64 j))) (add-one i) refl $
         forget ! 4 refl $ forget ! 5 refl $ forget ! 6 refl $ forget ! 7 refl $ forget ! 8 refl $ forget ! 9 refl $ forget ! 10 refl $ forget ! 11 refl $ forget ! 12 refl $ move ! (1 ∷ 0 ∷ []) $ by ! k)))
@@ -197,10 +197,10 @@ module _ {M : Type 1} (𝓤 : URA M) (H : Heap 𝓤) (A : Atoms 𝓤) (W : Given
         assigns ! (bin ! (load ! (from ! (stop !)) (look ! 3 refl)) (load ! (from ! (stop !)) (look ! 14 refl)) tt) (from ! (stop !)) (init ! 5 refl (tt, tt)) $
         rewrite ! 5 (λ (t : Bool). ‵ (fat fullShare tyBool l₈ 0 (vbool t))) (le-ltb n n (omega arith)) refl $
         leaves-loop ! (load ! (from ! (stop !)) (look ! 5 refl)) $ exec ! C Λ E body.t-7 (atRet E Post) $
-        use1 W (some (λ (v : Val). given (Is (Array u64 256) (over n (lowsOf ys) zeros) (v ∷ [])) (‵ (fat fullShare arr l₂ 0 v)))) (array-in 𝓤 H A W 256 (over n (lowsOf ys) zeros) l₂ (over-length n (lowsOf ys) zeros ∙ zeros-length)) $ pick ! (λ v. learn ! (λ is. move ! (1 ∷ []) $
-        use1 W (some (λ (w : Val). given (Is (Array u64 256) (over n (highsOf ys) zeros) (w ∷ [])) (‵ (fat fullShare arr l₃ 0 w)))) (array-in 𝓤 H A W 256 (over n (highsOf ys) zeros) l₃ (over-length n (highsOf ys) zeros ∙ zeros-length)) $ pick ! (λ w. learn ! (λ js.
-        assigns ! (of-opd ! (load ! (from ! (stop !)) (look ! 1 refl))) (from ! (stop !)) (init ! 17 refl (typed (over n (lowsOf ys) zeros) v is)) $
-        assigns ! (of-opd ! (load ! (from ! (stop !)) (look ! 0 refl))) (from ! (stop !)) (init ! 18 refl (typed (over n (highsOf ys) zeros) w js)) $
+        use1 W (some (λ (v : Val). given (Is (Array u64 256) (over n (lowsIn ys) zeros) (v ∷ [])) (‵ (fat fullShare arr l₂ 0 v)))) (array-in 𝓤 H A W 256 (over n (lowsIn ys) zeros) l₂ (over-length n (lowsIn ys) zeros ∙ zeros-length)) $ pick ! (λ v. learn ! (λ is. move ! (1 ∷ []) $
+        use1 W (some (λ (w : Val). given (Is (Array u64 256) (over n (highsIn ys) zeros) (w ∷ [])) (‵ (fat fullShare arr l₃ 0 w)))) (array-in 𝓤 H A W 256 (over n (highsIn ys) zeros) l₃ (over-length n (highsIn ys) zeros ∙ zeros-length)) $ pick ! (λ w. learn ! (λ js.
+        assigns ! (of-opd ! (load ! (from ! (stop !)) (look ! 1 refl))) (from ! (stop !)) (init ! 17 refl (typed (over n (lowsIn ys) zeros) v is)) $
+        assigns ! (of-opd ! (load ! (from ! (stop !)) (look ! 0 refl))) (from ! (stop !)) (init ! 18 refl (typed (over n (highsIn ys) zeros) w js)) $
         assigns ! (agg ! (and-then ! (load ! (from ! (stop !)) (look ! 17 refl)) (and-then ! (load ! (from ! (stop !)) (look ! 18 refl)) (and-then ! (load ! (from ! (stop !)) (look ! 14 refl)) (no-more !))))) (from ! (stop !)) (init ! 16 refl (LL.lawful B.the-type B′.the-laws 𝓤 H A W .typed taken _ (bounds-are taken v w is js (omega arith)) .0)) $
         move ! (2 ∷ 19 ∷ []) $ shuts-slice ! tt R q′ ys b o $
         returns ! (look ! 16 refl) $ forget ! 1 refl $ forget ! 2 refl $ forget ! 3 refl $ forget ! 5 refl $ forget ! 13 refl $ forget ! 14 refl $ forget ! 15 refl $ forget ! 16 refl $ forget ! 17 refl $ forget ! 18 refl $

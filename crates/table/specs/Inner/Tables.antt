@@ -7,11 +7,11 @@ use Rattle.table.specs.declared.Bounds.{Bounds}
 use Rattle.table.specs.declared.SettledBounds.{SettledBounds}
 use Rattle.table.specs.declared.ReportedBounds.{ReportedBounds}
 use Rattle.table.specs.declared.ReadBounds.{ReadBounds}
-use Rattle.job.specs.Job.{Outcome}
+use Rattle.job.specs.Job.{JobOrRefusal}
 use Rattle.job.specs.Reading.{readingOf, readTable, lowsAfter, highsAfter}
 use Rattle.report.specs.Calls.{Reported, reportText}
 use Rattle.works.specs.Calls.{Settlement, settleText}
-use Rattle.table.specs.Tables.{lowsOf, highsOf}
+use Rattle.table.specs.Tables.{lowsIn, highsIn}
 
 -- the table with these lows and highs
 abbrev pub ranges : List ℕ → List ℕ → List Range
@@ -33,8 +33,8 @@ zeros = replicate 256 0
 -- the bounds of a table's first 256 entries
 abbrev pub boundsOf : List Range → Bounds
 boundsOf t = record {
-  lows = over (min (length t) 256) (lowsOf t) zeros;
-  highs = over (min (length t) 256) (highsOf t) zeros;
+  lows = over (min (length t) 256) (lowsIn t) zeros;
+  highs = over (min (length t) 256) (highsIn t) zeros;
   count = min (length t) 256;
 }
 
@@ -65,7 +65,7 @@ abbrev pub afterReading : List ℕ → Bounds → ReadBounds
 afterReading text c =
     let lows : List ℕ = take (c .count) (c .lows) in
     let highs : List ℕ = take (c .count) (c .highs) in
-    let found : Outcome = readTable text (length lows) (length highs) in
+    let found : JobOrRefusal = readTable text (length lows) (length highs) in
     record {
       bounds = record { lows = lowsAfter found lows ++ drop (c .count) (c .lows); highs = highsAfter found highs ++ drop (c .count) (c .highs); count = c .count };
       answer = readingOf found;

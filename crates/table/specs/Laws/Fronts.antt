@@ -12,15 +12,15 @@ use lib.ListN.{length, take, drop, take-append-drop, length-take, length-map}
 use lib.Seq.{take-take}
 use Rattle.group.specs.declared.Check.{Check}
 use Rattle.group.specs.declared.Check.the-variants.{Passed, Failed}
-use Rattle.job.specs.Job.{Job, Outcome, accepted, refused, refusal, mostBytes, readJob}
-use Rattle.job.specs.Reading.{readTable, fitTable, lowsAfter, highsAfter, Filled, readingOf}
+use Rattle.job.specs.Job.{Job, JobOrRefusal, accepted, refused, mostBytes, readJob}
+use Rattle.job.specs.Reading.{readTable, fitTable, lowsAfter, highsAfter, ReadInto, readingOf}
 use Rattle.job.specs.Laws.Sound.{accepted-sound}
 use Rattle.model.specs.Groups.{Group}
 use Rattle.model.specs.Shares.{pick}
 use Rattle.report.specs.Calls.{Reported, reported, jobOf, reportBy, reportSettled, reportText}
 use Rattle.report.specs.declared.Reporting.the-variants as reporting
 use Rattle.works.specs.Answers.{answerOf, tableAfter}
-use Rattle.works.specs.Calls.{Settlement, settlement, checkTable, afterCheck, leaving, settleJob, settleText}
+use Rattle.works.specs.Calls.{Settlement, settlement, checkTable, settledAfter, leaving, settleJob, settleText}
 use Rattle.works.specs.Settling as works
 use Rattle.works.specs.Tables.{Table, tableOf}
 use Rattle.works.specs.declared.Settling.{Settling}
@@ -30,9 +30,10 @@ use Rattle.table.specs.declared.Range.{Range}
 use Rattle.table.specs.declared.ReadBounds.{ReadBounds}
 use Rattle.table.specs.declared.ReportedBounds.{ReportedBounds}
 use Rattle.table.specs.declared.SettledBounds.{SettledBounds}
-use Rattle.table.specs.Tables.{lowsOf, highsOf}
+use Rattle.table.specs.Tables.{lowsIn, highsIn}
 use Rattle.table.specs.Inner.Tables.{over, ranges, boundsOf, afterSettling, afterReporting, bufferAfter, afterReading}
 use Rattle.table.specs.Laws.Lists.{bounds-hold, front-length, put-table}
+use Rattle.model.specs.Refusals.{refusal}
 
 -- what is past u entries, from the first m and from past them
 drop-front : (u m : ℕ) (xs : List ℕ) → u ≤ m → drop u (take m xs) ++ drop m xs ≡ drop u xs
@@ -64,18 +65,18 @@ take-front (suc u) (suc m) (l ∷ ls) [] h e = ap (λ (zs : List ℕ). take (suc
 take-front (suc u) (suc m) (l ∷ ls) (x ∷ xs) h e = ap (λ (zs : List ℕ). l ∷ zs) (take-front u m ls xs (le-of-suc-le-suc h) (suc-inj e))
 
 -- an accepted job has at most m units
-abbrev FewIn : ℕ → Outcome → Type 0
+abbrev FewIn : ℕ → JobOrRefusal → Type 0
 FewIn m (accepted job) = length (job .lows) ≤ m
 FewIn m (refused r) = Unit {0}
 
 few-units : (text : List ℕ) → FewIn 256 (readJob text)
 few-units text = by-outcome (readJob text) refl
   where
-    by-outcome : (o : Outcome) → readJob text ≡ o → FewIn 256 o
+    by-outcome : (o : JobOrRefusal) → readJob text ≡ o → FewIn 256 o
     by-outcome (accepted job) e = accepted-sound text job e .built .few-units
     by-outcome (refused r) e = tt
 
-fit-few : (m a b : ℕ) (o : Outcome) → FewIn m o → FewIn m (fitTable a b o)
+fit-few : (m a b : ℕ) (o : JobOrRefusal) → FewIn m o → FewIn m (fitTable a b o)
 unfolding fitTable
 fit-few m a b (refused r) few = tt
 fit-few m a b (accepted job) few = by-test (leb (length (job .lows)) a && leb (length (job .lows)) b)
@@ -90,7 +91,7 @@ module _ (m : ℕ) (lows highs : List ℕ) where
   longer s = settlement (s .answer) (s .lows ++ drop m lows) (s .highs ++ drop m highs)
 
   after-front : (check : Check) (outcome : works.Outcome) (units : ℕ) → units ≤ m
-      → longer (afterCheck check (take m lows) (take m highs) (leaving outcome units (take m lows) (take m highs))) ≡ afterCheck check lows highs (leaving outcome units lows highs)
+      → longer (settledAfter check (take m lows) (take m highs) (leaving outcome units (take m lows) (take m highs))) ≡ settledAfter check lows highs (leaving outcome units lows highs)
   after-front (Failed refusal) outcome units h = rw (take-append-drop m lows, take-append-drop m highs) refl
   after-front Passed outcome units h = λ i.
       let left : Table = tableAfter outcome (tableOf (take-take units m lows h i) (take-take units m highs h i)) in
@@ -103,7 +104,7 @@ module _ (m : ℕ) (lows highs : List ℕ) where
   job-front : (groups : List Group) (units scratch : ℕ) → units ≤ m → longer (settleJob groups units (take m lows) (take m highs) scratch) ≡ settleJob groups units lows highs scratch
   unfolding settleJob
   job-front groups units scratch h =
-      (λ i. longer (afterCheck (check-front units scratch h i) (take m lows) (take m highs)
+      (λ i. longer (settledAfter (check-front units scratch h i) (take m lows) (take m highs)
       (leaving (works.settle groups (tableOf (take-take units m lows h i) (take-take units m highs h i))) units (take m lows) (take m highs))))
       ∙ after-front (checkTable units lows highs scratch) (works.settle groups (tableOf (take units lows) (take units highs))) units h
 
@@ -112,7 +113,7 @@ module _ (m : ℕ) (lows highs : List ℕ) where
   unfolding settleText
   text-front text scratch few = by-outcome (readJob text) refl few
     where
-      by-outcome : (o : Outcome) → readJob text ≡ o → FewIn m o → longer (settleText text (take m lows) (take m highs) scratch) ≡ settleText text lows highs scratch
+      by-outcome : (o : JobOrRefusal) → readJob text ≡ o → FewIn m o → longer (settleText text (take m lows) (take m highs) scratch) ≡ settleText text lows highs scratch
       by-outcome (accepted job) e few = rw (settleText, e) (job-front (job .groups) (length (job .lows)) scratch few)
       by-outcome (refused r) e few = rw (settleText, e, take-append-drop m lows, take-append-drop m highs) refl
 
@@ -135,7 +136,7 @@ module _ (m : ℕ) (lows highs : List ℕ) where
       found : Job
       found = jobOf (readJob text)
 
-      few-found : (o : Outcome) → FewIn m o → length (jobOf o .lows) ≤ m
+      few-found : (o : JobOrRefusal) → FewIn m o → length (jobOf o .lows) ≤ m
       few-found (accepted job) few = few
       few-found (refused r) few = omega arith
 
@@ -154,16 +155,16 @@ module _ (m : ℕ) (lows highs : List ℕ) where
       by-room false p q = rw (take-append-drop m lows, take-append-drop m highs) refl
 
   -- and so does reading one
-  fit-front : (o : Outcome) → FewIn m o → fitTable (length (take m lows)) (length (take m highs)) o ≡ fitTable (length lows) (length highs) o
+  fit-front : (o : JobOrRefusal) → FewIn m o → fitTable (length (take m lows)) (length (take m highs)) o ≡ fitTable (length lows) (length highs) o
   unfolding fitTable
   fit-front (accepted job) few = rw (room-front (length (job .lows)) m lows few, room-front (length (job .lows)) m highs few) refl
   fit-front (refused r) few = refl
 
-  lows-front : (o : Outcome) → FewIn m o → lowsAfter o (take m lows) ++ drop m lows ≡ lowsAfter o lows
+  lows-front : (o : JobOrRefusal) → FewIn m o → lowsAfter o (take m lows) ++ drop m lows ≡ lowsAfter o lows
   lows-front (accepted job) few = write-front (length (job .lows)) m (job .lows) lows few
   lows-front (refused r) few = take-append-drop m lows
 
-  highs-front : (o : Outcome) → FewIn m o → highsAfter o (take m highs) ++ drop m highs ≡ highsAfter o highs
+  highs-front : (o : JobOrRefusal) → FewIn m o → highsAfter o (take m highs) ++ drop m highs ≡ highsAfter o highs
   highs-front (accepted job) few = write-front (length (job .lows)) m (job .highs) highs few
   highs-front (refused r) few = take-append-drop m highs
 
@@ -175,54 +176,54 @@ module _ (text : List ℕ) (t : List Range) where
   -- settling over a table's bounds is settling over its lows and highs
   pub settled-table : (scratch : ℕ) → let r : SettledBounds = afterSettling text (boundsOf t) scratch in
       length (r .bounds .lows) ≡ 256 → length (r .bounds .highs) ≡ 256
-      → settlement (r .answer) (lowsOf (putBack (r .bounds) t)) (highsOf (putBack (r .bounds) t)) ≡ settleText text (lowsOf t) (highsOf t) scratch
+      → settlement (r .answer) (lowsIn (putBack (r .bounds) t)) (highsIn (putBack (r .bounds) t)) ≡ settleText text (lowsIn t) (highsIn t) scratch
   settled-table scratch p q =
       let n : ℕ = min (length t) 256 in
       let s : Settlement = settleText text (take n (boundsOf t .lows)) (take n (boundsOf t .highs)) scratch in
       let back = put-table t (s .lows) (s .highs) p q in
       (λ i. settlement (s .answer) (back .0 i) (back .1 i))
-      ∙ (λ i. longer 256 (lowsOf t) (highsOf t) (settleText text (bounds-hold (λ r. r .low) t i) (bounds-hold (λ r. r .high) t i) scratch))
-      ∙ text-front 256 (lowsOf t) (highsOf t) text scratch (few-units text)
+      ∙ (λ i. longer 256 (lowsIn t) (highsIn t) (settleText text (bounds-hold (λ r. r .low) t i) (bounds-hold (λ r. r .high) t i) scratch))
+      ∙ text-front 256 (lowsIn t) (highsIn t) text scratch (few-units text)
 
   -- reporting over a table's bounds is reporting over its lows and highs
   pub reported-table : (scratch : ℕ) (buffer : List ℕ) → let r : ReportedBounds = afterReporting text (boundsOf t) scratch buffer in
       length (r .bounds .lows) ≡ 256 → length (r .bounds .highs) ≡ 256
-      → reported (r .answer) (lowsOf (putBack (r .bounds) t)) (highsOf (putBack (r .bounds) t)) (bufferAfter text (boundsOf t) scratch buffer) ≡ reportText text (lowsOf t) (highsOf t) scratch buffer
+      → reported (r .answer) (lowsIn (putBack (r .bounds) t)) (highsIn (putBack (r .bounds) t)) (bufferAfter text (boundsOf t) scratch buffer) ≡ reportText text (lowsIn t) (highsIn t) scratch buffer
   reported-table scratch buffer p q =
       let n : ℕ = min (length t) 256 in
       let s : Reported = reportText text (take n (boundsOf t .lows)) (take n (boundsOf t .highs)) scratch buffer in
-      let held : s ≡ reportText text (take 256 (lowsOf t)) (take 256 (highsOf t)) scratch buffer =
+      let held : s ≡ reportText text (take 256 (lowsIn t)) (take 256 (highsIn t)) scratch buffer =
       (λ i. reportText text (bounds-hold (λ r. r .low) t i) (bounds-hold (λ r. r .high) t i) scratch buffer) in
       let back = put-table t (s .lows) (s .highs) p q in
       (λ i. reported (s .answer) (back .0 i) (back .1 i) (s .buffer))
-      ∙ (λ i. wider 256 (lowsOf t) (highsOf t) (held i))
-      ∙ report-front 256 (lowsOf t) (highsOf t) text scratch buffer (few-units text)
+      ∙ (λ i. wider 256 (lowsIn t) (highsIn t) (held i))
+      ∙ report-front 256 (lowsIn t) (highsIn t) text scratch buffer (few-units text)
       (ap (λ (z : Reported). length (z .lows)) (sym held) ∙ front-length (λ r. r .low) t (s .lows) p ∙ sym (rw (length-take, length-map) (omega arith)))
       (ap (λ (z : Reported). length (z .highs)) (sym held) ∙ front-length (λ r. r .high) t (s .highs) q ∙ sym (rw (length-take, length-map) (omega arith)))
 
   -- reading into a table's bounds is reading into its lows and highs
   pub read-table : let r : ReadBounds = afterReading text (boundsOf t) in
       length (r .bounds .lows) ≡ 256 → length (r .bounds .highs) ≡ 256
-      → Filled text (lowsOf t) (highsOf t) (lowsOf (putBack (r .bounds) t)) (highsOf (putBack (r .bounds) t)) (r .answer)
+      → ReadInto text (lowsIn t) (highsIn t) (lowsIn (putBack (r .bounds) t)) (highsIn (putBack (r .bounds) t)) (r .answer)
   unfolding readTable
   read-table p q =
       let lows : List ℕ = take (boundsOf t .count) (boundsOf t .lows) in
       let highs : List ℕ = take (boundsOf t .count) (boundsOf t .highs) in
-      let held : Outcome = readTable text (length lows) (length highs) in
-      let whole : Outcome = readTable text (length (lowsOf t)) (length (highsOf t)) in
-      let few : FewIn 256 whole = fit-few 256 (length (lowsOf t)) (length (highsOf t)) (readJob text) (few-units text) in
+      let held : JobOrRefusal = readTable text (length lows) (length highs) in
+      let whole : JobOrRefusal = readTable text (length (lowsIn t)) (length (highsIn t)) in
+      let few : FewIn 256 whole = fit-few 256 (length (lowsIn t)) (length (highsIn t)) (readJob text) (few-units text) in
       let found : held ≡ whole =
       (λ i. readTable text (length (bounds-hold (λ r. r .low) t i)) (length (bounds-hold (λ r. r .high) t i)))
-      ∙ fit-front 256 (lowsOf t) (highsOf t) (readJob text) (few-units text) in
+      ∙ fit-front 256 (lowsIn t) (highsIn t) (readJob text) (few-units text) in
       let back = put-table t (lowsAfter held lows) (highsAfter held highs) p q in
       record {
         answer = ap readingOf found;
         lows-are =
             back .0
-            ∙ (λ i. lowsAfter (found i) (bounds-hold (λ r. r .low) t i) ++ drop 256 (lowsOf t))
-            ∙ lows-front 256 (lowsOf t) (highsOf t) whole few;
+            ∙ (λ i. lowsAfter (found i) (bounds-hold (λ r. r .low) t i) ++ drop 256 (lowsIn t))
+            ∙ lows-front 256 (lowsIn t) (highsIn t) whole few;
         highs-are =
             back .1
-            ∙ (λ i. highsAfter (found i) (bounds-hold (λ r. r .high) t i) ++ drop 256 (highsOf t))
-            ∙ highs-front 256 (lowsOf t) (highsOf t) whole few;
+            ∙ (λ i. highsAfter (found i) (bounds-hold (λ r. r .high) t i) ++ drop 256 (highsIn t))
+            ∙ highs-front 256 (lowsIn t) (highsIn t) whole few;
       }

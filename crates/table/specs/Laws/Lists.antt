@@ -6,7 +6,7 @@ use native.Mathlib.Nat.{le-of-suc-le-suc, not-suc-le-zero, suc-inj, zero-min, mi
 use native.Mathlib.Omega.{arith}
 use lib.ListN.{length, getD, set, take, drop, replicate, length-replicate, length-map, length-append, length-drop}
 use Rattle.table.specs.declared.Range.{Range}
-use Rattle.table.specs.Tables.{lowsOf, highsOf}
+use Rattle.table.specs.Tables.{lowsIn, highsIn}
 use Rattle.table.specs.Inner.Tables.{over, ranges, zeros, boundsOf}
 
 -- it is as long as the list written over
@@ -71,7 +71,7 @@ drop-least (suc m) (x ∷ xs) = rw (suc-min-suc (length xs) m) (drop-least m xs)
 
 -- the lows and highs of a table written over with as many as there are: what stands past them does not matter
 over-fields : (n : ℕ) (ls hs ks js : List ℕ) (t : List Range) → length ls ≡ n → length hs ≡ n → n ≤ length t
-    → (lowsOf (over n (ranges (ls ++ ks) (hs ++ js)) t) ≡ ls ++ drop n (lowsOf t)) × (highsOf (over n (ranges (ls ++ ks) (hs ++ js)) t) ≡ hs ++ drop n (highsOf t))
+    → (lowsIn (over n (ranges (ls ++ ks) (hs ++ js)) t) ≡ ls ++ drop n (lowsIn t)) × (highsIn (over n (ranges (ls ++ ks) (hs ++ js)) t) ≡ hs ++ drop n (highsIn t))
 over-fields zero [] [] ks js t p q le = (refl, refl)
 over-fields zero [] (h ∷ hs) ks js t p q le = absurd (omega (arith, q))
 over-fields zero (l ∷ ls) hs ks js t p q le = absurd (omega (arith, p))
@@ -95,7 +95,7 @@ front-length f t ls whole =
 pub put-table : (t : List Range) (ls hs : List ℕ) → let n : ℕ = min (length t) 256 in
     let lows : List ℕ = ls ++ drop n (boundsOf t .lows) in let highs : List ℕ = hs ++ drop n (boundsOf t .highs) in
     length lows ≡ 256 → length highs ≡ 256
-    → (lowsOf (over n (ranges lows highs) t) ≡ ls ++ drop 256 (lowsOf t)) × (highsOf (over n (ranges lows highs) t) ≡ hs ++ drop 256 (highsOf t))
+    → (lowsIn (over n (ranges lows highs) t) ≡ ls ++ drop 256 (lowsIn t)) × (highsIn (over n (ranges lows highs) t) ≡ hs ++ drop 256 (highsIn t))
 put-table t ls hs p q =
     let n : ℕ = min (length t) 256 in
     let both = over-fields n ls hs (drop n (boundsOf t .lows)) (drop n (boundsOf t .highs)) t (front-length (λ r. r .low) t ls p) (front-length (λ r. r .high) t hs q) (omega arith) in

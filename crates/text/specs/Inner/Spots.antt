@@ -16,17 +16,17 @@ use Rattle.text.specs.declared.Found.{Found}
 use Rattle.text.specs.declared.Found.the-variants.{Is, Nothing}
 
 -- the bytes from a spot on
-abbrev pub left : List ℕ → Spot → List ℕ
-left text spot = drop (spot .at) text
+abbrev pub bytesFrom : List ℕ → Spot → List ℕ
+bytesFrom text spot = drop (spot .at) text
 
 -- the spot after a word
 abbrev pub stepped : List ℕ → Step → Parsed (Unit {0})
-stepped text (To spot) = parsed tt (left text spot)
+stepped text (To spot) = parsed tt (bytesFrom text spot)
 stepped text Stop = failed
 
 -- a number and the spot after it
 abbrev pub counted : List ℕ → Number → Parsed ℕ
-counted text (Value v spot) = parsed v (left text spot)
+counted text (Value v spot) = parsed v (bytesFrom text spot)
 counted text Missing = failed
 
 -- the digit that stands first

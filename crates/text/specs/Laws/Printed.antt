@@ -91,17 +91,17 @@ printed-goes-on (suc n) v s h p =
     ]
 
 -- no digit stands first
-unfoldable pub Ends : List ℕ → Type 0
-Ends [] = Unit
-Ends (b ∷ s) = isDigit (kindOf b) ≡ false
+unfoldable pub NoDigitNext : List ℕ → Type 0
+NoDigitNext [] = Unit
+NoDigitNext (b ∷ s) = isDigit (kindOf b) ≡ false
 
-ends : (v : ℕ) (s : List ℕ) → Ends s → digits v s ≡ parsed v s
-unfolding Ends digits
+ends : (v : ℕ) (s : List ℕ) → NoDigitNext s → digits v s ≡ parsed v s
+unfolding NoDigitNext digits
 ends v [] h = refl
 ends v (b ∷ s) h = rw h
 
 -- what was printed reads as itself, where no digit follows
-pub number-printed : (v : ℕ) (s : List ℕ) → Ends s → number (printNumber v ++ s) ≡ parsed v s
+pub number-printed : (v : ℕ) (s : List ℕ) → NoDigitNext s → number (printNumber v ++ s) ≡ parsed v s
 unfolding number
 number-printed zero s h = rw (print-one 0 (omega arith))
 number-printed (suc v) s h = printed-goes-on (suc (suc v)) (suc v) s (omega arith) (omega arith) ∙ ends (suc v) s h

@@ -16,7 +16,7 @@ use Rattle.job.specs.declared.Reading.the-variants.{Read, Refused}
 use Rattle.model.specs.Groups.{Group}
 use Rattle.model.specs.declared.Refusal.{Refusal}
 use Rattle.works.specs.Calls.{settlement, settleJob, settleText}
-use Rattle.works.specs.Consistency.{Sound}
+use Rattle.works.specs.Consistency.{SoundOpening}
 use Rattle.works.specs.Inner.Asked.{Prepared}
 use Rattle.works.specs.Tables.{Table, Valid, units}
 use Rattle.groups.specs.Memberships.{SoundGroup}
@@ -31,7 +31,7 @@ each-sound (job.AcceptedGroups.also first others) group member =
 
 module _ (text : List ℕ) (found : Job) (reads : readJob text ≡ accepted found) where
   -- its groups are sound over every table of ranges of its units
-  pub accepted-groups : {table : Table} → Valid table → units table ≡ length (found .lows) → Sound (found .groups) table
+  pub accepted-groups : {table : Table} → Valid table → units table ≡ length (found .lows) → SoundOpening (found .groups) table
   accepted-groups valid count = record {
     valid = valid;
     each = λ group member. rw count (each-sound (accepted-sound text found reads .built .groups-sound) group member);

@@ -7,7 +7,7 @@ use native.Mathlib.Omega.{arith}
 use lib.ListN.{length, take, drop, length-append, length-drop, take-append-drop}
 use lib.Seq.{length-take-le, take-at, drop-at}
 use Rattle.works.specs.Calls.{Settlement, settlement, leaving, settleJob, settleText, WantOfPlan}
-use Rattle.works.specs.Consistency.{Sound, Apart, Consistent, NoneInside}
+use Rattle.works.specs.Consistency.{SoundOpening, Apart, Consistent, NoneInside}
 use Rattle.works.specs.Settling.{Outcome, settle}
 use Rattle.works.specs.Tables.{Table, lowOf, highOf, width, Inside}
 use Rattle.works.specs.declared.Settling.{Settling}
@@ -25,7 +25,7 @@ says is = ap (λ (s : Settlement). s .answer) is
 
 module _ {text lows highs : List ℕ} {scratch : ℕ} (cleared : Cleared text lows highs scratch) where
   -- the groups are sound over the opening table
-  pub opening-sound : Sound (groups cleared) (opening cleared)
+  pub opening-sound : SoundOpening (groups cleared) (opening cleared)
   opening-sound =
       accepted-groups text (cleared .found) (cleared .reads) (passed-ranges (count cleared) lows highs scratch (cleared .passes) .ranges)
       (length-take-le (count cleared) lows (passed-room (count cleared) lows highs scratch (cleared .passes) .forLows))
@@ -36,13 +36,13 @@ module _ {text lows highs : List ℕ} {scratch : ℕ} (cleared : Cleared text lo
   called-is = rw (settleText, cleared .reads, cleared .passes)
 
   -- how the call ends: settled, with the table that it leaves, or for want of a plan, with the table as it was
-  pub data Ends : Type 0 where
+  pub data CallEnds : Type 0 where
     settled : (passes : ℕ) → settle (groups cleared) (opening cleared) ≡ Outcome.settled (after cleared) passes
         → called cleared
         ≡ settlement (Settled passes) (after cleared .lows ++ drop (count cleared) lows) (after cleared .highs ++ drop (count cleared) highs)
-        → Ends
+        → CallEnds
     refused : (number place passes : ℕ) → settle (groups cleared) (opening cleared) ≡ Outcome.refused number place passes
-        → called cleared ≡ settlement (NoPlan number place passes) lows highs → Ends
+        → called cleared ≡ settlement (NoPlan number place passes) lows highs → CallEnds
 
   -- the units of the settled table are the opening table's
   pub first-count : {final : Table} {passes : ℕ} → settle (groups cleared) (opening cleared) ≡ Outcome.settled final passes
@@ -58,7 +58,7 @@ module _ {text lows highs : List ℕ} {scratch : ℕ} (cleared : Cleared text lo
       settled-inside opening-sound is .sameHighs
       ∙ length-take-le (count cleared) highs (passed-room (count cleared) lows highs scratch (cleared .passes) .forHighs)
 
-  by-outcome : (outcome : Outcome) → settle (groups cleared) (opening cleared) ≡ outcome → Ends
+  by-outcome : (outcome : Outcome) → settle (groups cleared) (opening cleared) ≡ outcome → CallEnds
   by-outcome (Outcome.settled final passes) is =
       let left : called cleared
       ≡ settlement (Settled passes) (final .lows ++ drop (count cleared) lows) (final .highs ++ drop (count cleared) highs) = called-is ∙ rw is in
@@ -69,12 +69,12 @@ module _ {text lows highs : List ℕ} {scratch : ℕ} (cleared : Cleared text lo
       ap (λ (s : Settlement). take (count cleared) (s .highs)) left
       ∙ take-at (final .highs) (drop (count cleared) highs) (count cleared) (second-count is) in
       let same : after cleared ≡ final = same-ranges low-ends high-ends in
-      Ends.settled passes (rw same is) (rw (low-ends, high-ends) left)
+      CallEnds.settled passes (rw same is) (rw (low-ends, high-ends) left)
   by-outcome (Outcome.refused number place passes) is =
-      Ends.refused number place passes is (called-is ∙ rw (is, take-append-drop (count cleared) lows, take-append-drop (count cleared) highs))
+      CallEnds.refused number place passes is (called-is ∙ rw (is, take-append-drop (count cleared) lows, take-append-drop (count cleared) highs))
 
   -- the call ends so
-  pub ends : Ends
+  pub ends : CallEnds
   ends = by-outcome (settle (groups cleared) (opening cleared)) refl
 
   -- which is not settled
@@ -87,9 +87,9 @@ module _ {text lows highs : List ℕ} {scratch : ℕ} (cleared : Cleared text lo
     pub called-settled : settle (groups cleared) (opening cleared) ≡ Outcome.settled (after cleared) passes
     called-settled = settles ends
       where
-        settles : Ends → settle (groups cleared) (opening cleared) ≡ Outcome.settled (after cleared) passes
-        settles (Ends.settled count is said) = let same : count ≡ passes = cc (says said) in rw (← same) is
-        settles (Ends.refused number place count is said) = absurd (let z : _≡_ {A = ℕ} 0 1 = cc (says said) in omega arith)
+        settles : CallEnds → settle (groups cleared) (opening cleared) ≡ Outcome.settled (after cleared) passes
+        settles (CallEnds.settled count is said) = let same : count ≡ passes = cc (says said) in rw (← same) is
+        settles (CallEnds.refused number place count is said) = absurd (let z : _≡_ {A = ℕ} 0 1 = cc (says said) in omega arith)
 
     -- the settled table lies inside the opening one
     pub called-inside : Inside (after cleared) (opening cleared)
@@ -112,24 +112,24 @@ module _ {text lows highs : List ℕ} {scratch : ℕ} (cleared : Cleared text lo
   pub called-refused : WithoutPlan cleared ↔ NoneInside (groups cleared) (opening cleared)
   called-refused = (refuses ends, back ends)
     where
-      refuses : Ends → WithoutPlan cleared → NoneInside (groups cleared) (opening cleared)
-      refuses (Ends.settled count is said) without = absurd (settled-not (says said) without)
-      refuses (Ends.refused number place passes is said) without = refused-exactly opening-sound .0 (rw is)
+      refuses : CallEnds → WithoutPlan cleared → NoneInside (groups cleared) (opening cleared)
+      refuses (CallEnds.settled count is said) without = absurd (settled-not (says said) without)
+      refuses (CallEnds.refused number place passes is said) without = refused-exactly opening-sound .0 (rw is)
 
-      back : Ends → NoneInside (groups cleared) (opening cleared) → WithoutPlan cleared
-      back (Ends.settled count is said) none =
+      back : CallEnds → NoneInside (groups cleared) (opening cleared) → WithoutPlan cleared
+      back (CallEnds.settled count is said) none =
           absurd (none (after cleared) (settled-consistent opening-sound is) (settled-inside opening-sound is))
-      back (Ends.refused number place passes is said) none = (number, place, passes, says said)
+      back (CallEnds.refused number place passes is said) none = (number, place, passes, says said)
 
   -- then it says 11 or 12 and the place of a group, and the table holds what it held
   pub called-refusal : {number place passes : ℕ} → called cleared .answer ≡ NoPlan number place passes
       → (WantOfPlan number × (1 ≤ place) × (place ≤ length (groups cleared))) × (called cleared ≡ settlement (NoPlan number place passes) lows highs)
   called-refusal {number} {place} {passes} answers = refuses ends
     where
-      refuses : Ends → (WantOfPlan number × (1 ≤ place) × (place ≤ length (groups cleared)))
+      refuses : CallEnds → (WantOfPlan number × (1 ≤ place) × (place ≤ length (groups cleared)))
           × (called cleared ≡ settlement (NoPlan number place passes) lows highs)
-      refuses (Ends.settled count is said) = absurd (let z : _≡_ {A = ℕ} 0 1 = cc (says said) in omega arith)
-      refuses (Ends.refused other there count is said) =
+      refuses (CallEnds.settled count is said) = absurd (let z : _≡_ {A = ℕ} 0 1 = cc (says said) in omega arith)
+      refuses (CallEnds.refused other there count is said) =
           let same : NoPlan other there count ≡ NoPlan number place passes = sym (says said) ∙ answers in
           let at-number : other ≡ number = cc in
           let at-place : there ≡ place = cc in
@@ -141,37 +141,37 @@ module _ {text lows highs : List ℕ} {scratch : ℕ} (cleared : Cleared text lo
   pub called-bound : passesIn (called cleared .answer) ≤ suc (width (opening cleared))
   called-bound = bound ends
     where
-      bound : Ends → passesIn (called cleared .answer) ≤ suc (width (opening cleared))
-      bound (Ends.settled passes is said) = rw said (rw is at (passes-bound opening-sound))
-      bound (Ends.refused number place passes is said) = rw said (rw is at (passes-bound opening-sound))
+      bound : CallEnds → passesIn (called cleared .answer) ≤ suc (width (opening cleared))
+      bound (CallEnds.settled passes is said) = rw said (rw is at (passes-bound opening-sound))
+      bound (CallEnds.refused number place passes is said) = rw said (rw is at (passes-bound opening-sound))
 
   -- entries past the units keep their values
   pub called-past : (drop (count cleared) (called cleared .lows) ≡ drop (count cleared) lows)
       × (drop (count cleared) (called cleared .highs) ≡ drop (count cleared) highs)
   called-past = past ends
     where
-      past : Ends → (drop (count cleared) (called cleared .lows) ≡ drop (count cleared) lows)
+      past : CallEnds → (drop (count cleared) (called cleared .lows) ≡ drop (count cleared) lows)
           × (drop (count cleared) (called cleared .highs) ≡ drop (count cleared) highs)
-      past (Ends.settled passes is said) = (
+      past (CallEnds.settled passes is said) = (
         ap (λ (s : Settlement). drop (count cleared) (s .lows)) said
             ∙ drop-at (after cleared .lows) (drop (count cleared) lows) (count cleared) (first-count is),
         ap (λ (s : Settlement). drop (count cleared) (s .highs)) said
             ∙ drop-at (after cleared .highs) (drop (count cleared) highs) (count cleared) (second-count is),
       )
-      past (Ends.refused number place passes is said) =
+      past (CallEnds.refused number place passes is said) =
           (ap (λ (s : Settlement). drop (count cleared) (s .lows)) said, ap (λ (s : Settlement). drop (count cleared) (s .highs)) said)
 
   -- the lists keep their lengths
   pub called-lengths : (length (called cleared .lows) ≡ length lows) × (length (called cleared .highs) ≡ length highs)
   called-lengths = lengths ends
     where
-      lengths : Ends → (length (called cleared .lows) ≡ length lows) × (length (called cleared .highs) ≡ length highs)
-      lengths (Ends.settled passes is said) =
+      lengths : CallEnds → (length (called cleared .lows) ≡ length lows) × (length (called cleared .highs) ≡ length highs)
+      lengths (CallEnds.settled passes is said) =
           let room = passed-room (count cleared) lows highs scratch (cleared .passes) in (
             ap (λ (s : Settlement). length (s .lows)) said
                 ∙ simp (length-append, length-drop) (omega (arith, first-count is, room .forLows)),
             ap (λ (s : Settlement). length (s .highs)) said
                 ∙ simp (length-append, length-drop) (omega (arith, second-count is, room .forHighs)),
           )
-      lengths (Ends.refused number place passes is said) =
+      lengths (CallEnds.refused number place passes is said) =
           (ap (λ (s : Settlement). length (s .lows)) said, ap (λ (s : Settlement). length (s .highs)) said)

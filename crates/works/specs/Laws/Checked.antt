@@ -14,7 +14,7 @@ use Rattle.group.specs.Laws.Findings.{check-exactly, passed-sound, refuse-passe
 use Rattle.group.specs.Sound as one
 use Rattle.group.specs.declared.Check.the-variants.{Passed, Failed}
 use Rattle.model.specs.Laws.Tests.{both, both-left, both-right}
-use Rattle.model.specs.Shares.{Ranges}
+use Rattle.model.specs.Shares.{Ranges, mostUnits}
 use Rattle.model.specs.declared.Refusal.{Refusal}
 use Rattle.works.specs.Answers.{answerOf, tableAfter}
 use Rattle.works.specs.Calls.{settlement, hasRoom, checkTable, settleJob}
@@ -42,7 +42,7 @@ roomy units lows highs scratch held =
     }
 
 -- a table with room whose first units have ranges passes
-pub ranges-pass : (units : ℕ) (lows highs : List ℕ) (scratch : ℕ) → 1 ≤ units → units ≤ one.greatestCount
+pub ranges-pass : (units : ℕ) (lows highs : List ℕ) (scratch : ℕ) → 1 ≤ units → units ≤ mostUnits
     → Roomy units (length lows) (length highs) scratch → Ranges (take units lows) (take units highs)
     → checkTable units lows highs scratch ≡ Passed
 unfolding checkTable
@@ -70,7 +70,7 @@ module _ (units : ℕ) (lows highs : List ℕ) (scratch : ℕ) where
     passed-room = roomy units (length lows) (length highs) scratch (parts .0)
 
     -- the ranges are those of one group
-    pub passed-ranges : one.Sound (take units lows) (take units highs)
+    pub passed-ranges : one.SoundRanges (take units lows) (take units highs)
     passed-ranges = passed-sound (check-exactly (take units lows) (take units highs) units true Passed .0 (parts .1)) .0
 
     -- groups prepared for as many units can be settled over them

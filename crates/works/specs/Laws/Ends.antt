@@ -5,8 +5,8 @@ use mathlib.Core.List.{List}
 use mathlib.Core.Path.{_≡_, refl}
 use native.Mathlib.Omega.{arith, by-contra}
 use Rattle.model.specs.Groups.{Group}
-use Rattle.works.specs.Consistency.{Sound, Consistent, NoneInside}
-use Rattle.works.specs.Settling.{Passed, Outcome, pass, settleFrom, settle}
+use Rattle.works.specs.Consistency.{SoundOpening, Consistent, NoneInside}
+use Rattle.works.specs.Settling.{AfterPass, Outcome, pass, settleFrom, settle}
 use Rattle.works.specs.Tables.{Table, sameTable, width, Inside}
 use Rattle.works.specs.Laws.Inside.{inside-refl, inside-trans, same-table, changed, widths-same}
 use Rattle.works.specs.Endings.{After, Greatest}
@@ -37,13 +37,13 @@ before after keeps (Right.refused none bound) =
     Right.refused (λ inner consistent inside. none inner consistent (keeps inner consistent inside)) bound
 
 -- one pass and what follows it, given that what follows is right
-module _ (more done most : ℕ) (groups : List Group) (table : Table) (sound : Sound groups table)
+module _ (more done most : ℕ) (groups : List Group) (table : Table) (sound : SoundOpening groups table)
     (enough : width table < suc more) (bound : done + suc (width table) ≤ most)
-    (rest : (next : Table) → Sound groups next → width next < more
+    (rest : (next : Table) → SoundOpening groups next → width next < more
     → suc done + suc (width next) ≤ most → Right groups next most (settleFrom more (suc done) groups next))
   where
     -- after a pass that leaves a table
-    passing : (next : Table) → pass groups table ≡ Passed.passed next → (same : Bool) → sameTable next table ≡ same
+    passing : (next : Table) → pass groups table ≡ AfterPass.passed next → (same : Bool) → sameTable next table ≡ same
         → Right groups table most (settleFrom (suc more) done groups table)
     unfolding settleFrom
     passing next e true test =
@@ -71,10 +71,10 @@ module _ (more done most : ℕ) (groups : List Group) (table : Table) (sound : S
         (rest next (sound-inside sound (after .valid) (after .inside)) (omega arith) (omega arith)))
 
     -- after any pass
-    turning : (answer : Passed) → pass groups table ≡ answer → Right groups table most (settleFrom (suc more) done groups table)
+    turning : (answer : AfterPass) → pass groups table ≡ answer → Right groups table most (settleFrom (suc more) done groups table)
     unfolding settleFrom
-    turning (Passed.passed next) e = passing next e (sameTable next table) refl
-    turning (Passed.stopped number place) e =
+    turning (AfterPass.passed next) e = passing next e (sameTable next table) refl
+    turning (AfterPass.stopped number place) e =
         rw (e, settleFrom)
         (Right.refused {passes = suc done}
         (λ inner consistent inside.
@@ -84,7 +84,7 @@ module _ (more done most : ℕ) (groups : List Group) (table : Table) (sound : S
         (omega arith))
 
 -- with passes enough, settling ends right
-ends : (more done most : ℕ) (groups : List Group) (table : Table) → Sound groups table
+ends : (more done most : ℕ) (groups : List Group) (table : Table) → SoundOpening groups table
     → width table < more → done + suc (width table) ≤ most
     → Right groups table most (settleFrom more done groups table)
 ends zero done most groups table sound enough bound = absurd (omega arith)
@@ -92,7 +92,7 @@ ends (suc more) done most groups table sound enough bound =
     turning more done most groups table sound enough bound (ends more (suc done) most groups) (pass groups table) refl
 
 -- settling ends right, after at most 1 plus the sum of widths passes
-pub settle-right : (groups : List Group) (table : Table) → Sound groups table
+pub settle-right : (groups : List Group) (table : Table) → SoundOpening groups table
     → Right groups table (suc (width table)) (settle groups table)
 unfolding settle
 settle-right groups table sound = ends _ 0 _ groups table sound (omega arith) (omega arith)

@@ -8,10 +8,10 @@ use native.Mathlib.Omega.{arith}
 use lib.ListN.{getD}
 use Rattle.model.specs.Shares.{Ranges, sum, sumOf}
 use Rattle.model.specs.Figures.{deviation, spread}
-use Rattle.model.specs.Known.{known, holds, first, ten, three, sameList}
+use Rattle.model.specs.Known.{known, isKnown, four, ten, three, sameList}
 use Rattle.model.specs.Levels.{clamped, totalAt, levelBelow, level, topped, remainder, levelled}
 use Rattle.model.specs.Plans.{hasPlan, turnOf, firstUp, firstDown, narrowedLow, narrowedHigh, tabulate, narrowedLows, narrowedHighs}
-use Rattle.works.specs.Consistency.{Sound, Consistent, Suits}
+use Rattle.works.specs.Consistency.{SoundOpening, Consistent, Suits}
 use Rattle.works.specs.Settling.{Outcome, narrowed, revise, passFrom, settleFrom, settle}
 use Rattle.works.specs.Tables.{widths, gather, scatter}
 use Rattle.works.specs.Laws.Settled.{settled-consistent}
@@ -20,7 +20,7 @@ use Rattle.groups.specs.Memberships.{SoundGroup}
 
 -- every known share holds of the definitions
 pub known-jobs : allJobs knownJobs ≡ true
-unfolding allJobs holdsJob knownJobs pairs pairTable example exampleTable settle settleFrom passFrom revise narrowed widths gather scatter known holds first ten three sameList sum sumOf deviation spread clamped totalAt levelBelow level topped remainder levelled hasPlan turnOf firstUp firstDown narrowedLow narrowedHigh tabulate narrowedLows narrowedHighs
+unfolding allJobs holdsJob knownJobs pairs pairTable example exampleTable settle settleFrom passFrom revise narrowed widths gather scatter known isKnown four ten three sameList sum sumOf deviation spread clamped totalAt levelBelow level topped remainder levelled hasPlan turnOf firstUp firstDown narrowedLow narrowedHigh tabulate narrowedLows narrowedHighs
 known-jobs = refl
 
 -- the three pairs settle in one pass, which leaves the opening table
@@ -51,7 +51,7 @@ none-or-one : {lows highs : List ℕ} → Ranges lows highs → Ranges (0 ∷ lo
 none-or-one ranges = Ranges.also {l = 0} {h = 1} (omega arith) (omega arith) ranges
 
 -- the three pairs and their table are sound
-pub pairs-sound : Sound pairs pairTable
+pub pairs-sound : SoundOpening pairs pairTable
 unfolding pairs pairTable
 pairs-sound = record {
   valid = none-or-one (none-or-one (none-or-one Ranges.none));

@@ -10,7 +10,7 @@ use Rattle.model.specs.Groups.{Group}
 use Rattle.model.specs.Plans.{hasShares, hasPlan, turnOf}
 use Rattle.model.specs.Shares.{pick}
 use Rattle.model.specs.declared.Turn.the-variants.{Narrowed, NoPlan}
-use Rattle.works.specs.Settling.{Revised, Passed, Outcome, revisedBy, narrowed, revise, passFrom, pass, settleFrom, settle}
+use Rattle.works.specs.Settling.{Revised, AfterPass, Outcome, revisedBy, narrowed, revise, passFrom, pass, settleFrom, settle}
 use Rattle.works.specs.Tables.{Table, sameTable, width, lowsOf, highsOf}
 use Rattle.works.specs.Calls.{WantOfPlan}
 
@@ -34,20 +34,20 @@ record StopsAt (from count number place : ℕ) : Type 0 where
   pub most : place < from + count
 
 -- a pass stops at one of its groups
-pass-refusal : (from : ℕ) (groups : List Group) (table : Table) (number place : ℕ) → passFrom from groups table ≡ Passed.stopped number place
+pass-refusal : (from : ℕ) (groups : List Group) (table : Table) (number place : ℕ) → passFrom from groups table ≡ AfterPass.stopped number place
     → StopsAt from (length groups) number place
 unfolding passFrom
 pass-refusal from [] table number place e = absurd (let z : _≡_ {A = ℕ} 0 1 = cc in omega arith)
 pass-refusal from (group ∷ groups) table number place e =
     by-answer (λ next. pass-refusal (suc from) groups next number place) (revise table group) refl
   where
-    by-answer : ((next : Table) → passFrom (suc from) groups next ≡ Passed.stopped number place → StopsAt (suc from) (length groups) number place)
+    by-answer : ((next : Table) → passFrom (suc from) groups next ≡ AfterPass.stopped number place → StopsAt (suc from) (length groups) number place)
         → (answer : Revised) → revise table group ≡ answer → StopsAt from (length (group ∷ groups)) number place
     by-answer rest (Revised.revised next) r =
         let later = rest next (rw (r, passFrom) at e) in
         record { wants = later .wants; least = omega (arith, later .least); most = omega (arith, later .most) }
     by-answer rest (Revised.noPlan refusal) r =
-        let stops : Passed.stopped refusal from ≡ Passed.stopped number place = rw (r, passFrom) at e in
+        let stops : AfterPass.stopped refusal from ≡ AfterPass.stopped number place = rw (r, passFrom) at e in
         let same : refusal ≡ number = cc in
         let here : from ≡ place = cc in
         record { wants = turn-number table group number (rw same at r); least = omega arith; most = omega arith }
@@ -61,13 +61,13 @@ settling-refusal (suc more) done groups table number place passes e =
     by-pass (λ next. settling-refusal more (suc done) groups next number place passes) (pass groups table) refl
   where
     by-pass : ((next : Table) → settleFrom more (suc done) groups next ≡ Outcome.refused number place passes → StopsAt 1 (length groups) number place)
-        → (answer : Passed) → pass groups table ≡ answer → StopsAt 1 (length groups) number place
-    by-pass rest (Passed.stopped refusal at-place) p =
+        → (answer : AfterPass) → pass groups table ≡ answer → StopsAt 1 (length groups) number place
+    by-pass rest (AfterPass.stopped refusal at-place) p =
         let ends : Outcome.refused refusal at-place (suc done) ≡ Outcome.refused number place passes = rw (p, settleFrom) at e in
         let same : refusal ≡ number = cc in
         let here : at-place ≡ place = cc in
         pass-refusal 1 groups table number place (rw (same, here) at p)
-    by-pass rest (Passed.passed next) p = by-test (sameTable next table) refl
+    by-pass rest (AfterPass.passed next) p = by-test (sameTable next table) refl
       where
         by-test : (same : Bool) → sameTable next table ≡ same → StopsAt 1 (length groups) number place
         by-test true t =

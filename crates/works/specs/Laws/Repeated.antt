@@ -13,7 +13,7 @@ use Rattle.works.specs.Settling.{settledTable, settle}
 use Rattle.works.specs.Tables.{Table}
 use Rattle.works.specs.declared.Settling.the-variants.{Settled}
 use Rattle.works.specs.Called.{Cleared, groups, count, opening, called, after, WithoutPlan}
-use Rattle.works.specs.Laws.Called.{Ends, opening-sound, called-is, ends, called-settled, called-consistent, called-lengths, says, settled-not}
+use Rattle.works.specs.Laws.Called.{CallEnds, opening-sound, called-is, ends, called-settled, called-consistent, called-lengths, says, settled-not}
 use Rattle.works.specs.Laws.Checked.{passed-room, ranges-pass}
 use Rattle.works.specs.Laws.Settled.{settled-again, any-order}
 
@@ -58,9 +58,9 @@ module _ {text other lows highs : List ℕ} {scratch room : ℕ} (first : Cleare
   pub called-same-groups : (called first .lows ≡ called second .lows) × (called first .highs ≡ called second .highs) × (WithoutPlan first ↔ WithoutPlan second)
   called-same-groups = agree (ends first) (ends second)
     where
-      agree : Ends first → Ends second
+      agree : CallEnds first → CallEnds second
           → (called first .lows ≡ called second .lows) × (called first .highs ≡ called second .highs) × (WithoutPlan first ↔ WithoutPlan second)
-      agree (Ends.settled p a s) (Ends.settled q b t) =
+      agree (CallEnds.settled p a s) (CallEnds.settled q b t) =
           let tables : some (after first) ≡ some (after second) = rw (a, b) at same-table in
           let same : after first ≡ after second = cc in (
             ap (λ (x : Settlement). x .lows) s
@@ -71,11 +71,11 @@ module _ {text other lows highs : List ℕ} {scratch room : ℕ} (first : Cleare
                 ∙ sym (ap (λ (x : Settlement). x .highs) t),
             (λ without. absurd (settled-not first (says s) without), λ without. absurd (settled-not second (says t) without)),
           )
-      agree (Ends.settled p a s) (Ends.refused n k q b t) =
+      agree (CallEnds.settled p a s) (CallEnds.refused n k q b t) =
           absurd (let differ : some (after first) ≡ none = rw (a, b) at same-table in let z : _≡_ {A = ℕ} 0 1 = cc in omega arith)
-      agree (Ends.refused n k p a s) (Ends.settled q b t) =
+      agree (CallEnds.refused n k p a s) (CallEnds.settled q b t) =
           absurd (let differ : none ≡ some (after second) = rw (a, b) at same-table in let z : _≡_ {A = ℕ} 0 1 = cc in omega arith)
-      agree (Ends.refused m j p a s) (Ends.refused n k q b t) = (
+      agree (CallEnds.refused m j p a s) (CallEnds.refused n k q b t) = (
         ap (λ (x : Settlement). x .lows) s ∙ sym (ap (λ (x : Settlement). x .lows) t),
         ap (λ (x : Settlement). x .highs) s ∙ sym (ap (λ (x : Settlement). x .highs) t),
         (λ without. (n, k, q, says t), λ without. (m, j, p, says s)),

@@ -7,7 +7,7 @@ use mathlib.Core.Path.{_≡_, refl, sym, ap, _∙_}
 use native.Mathlib.Numerals.{add-one}
 use native.Mathlib.Omega.{arith, by-contra}
 use lib.ListN.{drop}
-use Rattle.model.specs.Shares.{greatestTotal}
+use Rattle.model.specs.Shares.{greatestTotal, mostUnits}
 use Rattle.model.specs.Laws.Tests.{refuted}
 use Rattle.group.specs.Sound as one
 use Rattle.group.specs.Laws.Sound as laws
@@ -17,24 +17,24 @@ use Rattle.groups.specs.declared.Stored.{Stored}
 use Rattle.model.specs.Groups.{Group}
 use Rattle.model.specs.declared.Turn.{Turn}
 use Rattle.model.specs.declared.Turn.the-variants.{Narrowed, NoPlan}
-use Rattle.works.specs.Consistency.{Sound}
+use Rattle.works.specs.Consistency.{SoundOpening}
 use Rattle.works.specs.Inner.Asked.{Turning, Opening}
 use Rattle.works.specs.Inner.Passes.{leftBy}
 use Rattle.works.specs.declared.passes.Pass.{Pass}
 use Rattle.works.specs.declared.passes.Pass.the-variants.{Through, Stopped}
-use Rattle.works.specs.Settling.{Revised, Passed, Outcome, revisedBy, revise, passFrom, pass, settleFrom, settle}
+use Rattle.works.specs.Settling.{Revised, AfterPass, Outcome, revisedBy, revise, passFrom, pass, settleFrom, settle}
 use Rattle.works.specs.Tables.{Table, sameTable, units, width}
 use Rattle.works.specs.Laws.Inside.{same-table, table-same, widths-sums, widths-same}
 use Rattle.works.specs.Endings.{After}
-use Rattle.works.specs.Laws.Passes.{first, sound-inside, sound-turn, pass-after}
+use Rattle.works.specs.Laws.Passes.{first-group, sound-inside, sound-turn, pass-after}
 use Rattle.works.specs.Laws.Turns.{turn-inside}
 
 -- what a pass leaves, from its answer
-module _ {answer : Pass} (left : Table) {whole : Passed} (leaves : leftBy answer left ≡ whole) where
-  pub pass-through : answer ≡ Through → whole ≡ Passed.passed left
+module _ {answer : Pass} (left : Table) {whole : AfterPass} (leaves : leftBy answer left ≡ whole) where
+  pub pass-through : answer ≡ Through → whole ≡ AfterPass.passed left
   pass-through is = sym leaves ∙ ap (λ (a : Pass). leftBy a left) is
 
-  pub pass-stopped : {number place : ℕ} → answer ≡ Stopped number place → whole ≡ Passed.stopped number place
+  pub pass-stopped : {number place : ℕ} → answer ≡ Stopped number place → whole ≡ AfterPass.stopped number place
   pass-stopped is = sym leaves ∙ ap (λ (a : Pass). leftBy a left) is
 
 module _ (flat : List ℕ) (count : ℕ) where
@@ -42,14 +42,14 @@ module _ (flat : List ℕ) (count : ℕ) where
   groups = groupsIn count flat
 
   -- the turns before place are taken, the group after them starts at an index: what is left of the pass makes it whole
-  pub record Passing (start table : Table) (at place : ℕ) : Type 0 where
+  pub record PassUnderWay (start table : Table) (at place : ℕ) : Type 0 where
     pub walk : Walk flat count at place
-    pub sound : Sound (drop place groups) table
+    pub sound : SoundOpening (drop place groups) table
     pub sameUnits : units table ≡ units start
     pub rest : passFrom (suc place) (drop place groups) table ≡ pass groups start
 
   -- the table's ranges are those of one group
-  pub opening-sound : {table : Table} → Opening flat count table → one.Sound (table .lows) (table .highs)
+  pub opening-sound : {table : Table} → Opening flat count table → one.SoundRanges (table .lows) (table .highs)
   opening-sound opening = laws.sound (opening .sound .valid) (opening .few)
 
   -- their widths add up to at most a total
@@ -57,16 +57,16 @@ module _ (flat : List ℕ) (count : ℕ) where
   width-small opening = omega (arith, widths-sums (opening .sound .valid), laws.highs-small (opening-sound opening))
 
   -- a pass starts
-  pub passing-start : {table : Table} → Opening flat count table → Passing table table 0 0
+  pub passing-start : {table : Table} → Opening flat count table → PassUnderWay table table 0 0
   passing-start opening = record { walk = walk-start flat count (opening .holds); sound = opening .sound; sameUnits = refl; rest = refl }
 
   -- once all turns are taken, the pass leaves the table
-  pub passing-end : {start table : Table} {at place : ℕ} → Passing start table at place → count ≤ place → pass groups start ≡ Passed.passed table
+  pub passing-end : {start table : Table} {at place : ℕ} → PassUnderWay start table at place → count ≤ place → pass groups start ≡ AfterPass.passed table
   unfolding passFrom
   passing-end passing end = sym (passing .rest) ∙ rw (walk-end flat count (passing .walk) end)
 
   -- a group's turn comes
-  module _ {start table : Table} {at place : ℕ} (passing : Passing start table at place) (some : place < count)
+  module _ {start table : Table} {at place : ℕ} (passing : PassUnderWay start table at place) (some : place < count)
       {stored : Stored} (read : stored ≡ storedAt flat at) where
     abbrev group : Group
     group = groupIn flat stored
@@ -75,7 +75,7 @@ module _ (flat : List ℕ) (count : ℕ) where
     next = walk-next flat count (passing .walk) some read
 
     -- it and the groups after it are sound
-    sound-next : Sound (group ∷ drop (place + 1) groups) table
+    sound-next : SoundOpening (group ∷ drop (place + 1) groups) table
     sound-next = rw (next .first) at (passing .sound)
 
     -- what is left of the pass with it
@@ -83,27 +83,27 @@ module _ (flat : List ℕ) (count : ℕ) where
     rest-next = rw (next .first) at (passing .rest)
 
     -- what the turn asks
-    pub next-turning : units start ≤ one.greatestCount → Turning table group
-    next-turning few = record { valid = sound-next .valid; few = omega (arith, passing .sameUnits); sound = sound-next .each _ first }
+    pub next-turning : units start ≤ mostUnits → Turning table group
+    next-turning few = record { valid = sound-next .valid; few = omega (arith, passing .sameUnits); sound = sound-next .each _ first-group }
 
     -- the turn's answer
     module _ (turn : Turn) (after : Table) (answer : revisedBy turn after ≡ revise table group) where
       -- where the group has no plan, the pass stops
-      pub next-stops : {number : ℕ} → turn ≡ NoPlan number → pass groups start ≡ Passed.stopped number (place + 1)
+      pub next-stops : {number : ℕ} → turn ≡ NoPlan number → pass groups start ≡ AfterPass.stopped number (place + 1)
       unfolding passFrom
       next-stops {number} refuses =
           let stops : revise table group ≡ Revised.noPlan number = rw (← answer, refuses) in
           sym rest-next ∙ rw (stops, passFrom, add-one place)
 
       -- else it goes on with the table that the turn leaves
-      pub next-passes : turn ≡ Narrowed → Passing start after (stored .next) (place + 1)
+      pub next-passes : turn ≡ Narrowed → PassUnderWay start after (stored .next) (place + 1)
       unfolding passFrom
       next-passes narrows =
           let goes-on : revise table group ≡ Revised.revised after = rw (← answer, narrows) in
           record {
             walk = next .onward;
             sound = sound-turn sound-next goes-on;
-            sameUnits = turn-inside table group (sound-next .valid) (sound-next .each _ first) goes-on .sameLows ∙ passing .sameUnits;
+            sameUnits = turn-inside table group (sound-next .valid) (sound-next .each _ first-group) goes-on .sameLows ∙ passing .sameUnits;
             rest = ap (λ (p : ℕ). passFrom (suc p) (drop (place + 1) groups) after) (add-one place) ∙ rw (goes-on, passFrom) at rest-next;
           }
 
@@ -143,17 +143,17 @@ module _ (flat : List ℕ) (count : ℕ) where
         some (suc more) enough rest = record { more = more; enough = enough; rest = rest }
 
     -- a pass that is stopped ends the settling
-    pub pass-refused : {number place : ℕ} → pass groups table ≡ Passed.stopped number place
+    pub pass-refused : {number place : ℕ} → pass groups table ≡ AfterPass.stopped number place
         → settle groups opening ≡ Outcome.refused number place (passes + 1)
     unfolding settleFrom
     pass-refused stops = sym (once .rest) ∙ rw (stops, settleFrom, add-one passes)
 
-    module _ {next : Table} (passes-on : pass groups table ≡ Passed.passed next) where
+    module _ {next : Table} (passes-on : pass groups table ≡ AfterPass.passed next) where
       after : After groups next table
       after = pass-after 1 groups table next (unsettled .ready .sound) passes-on
 
       -- the table's ranges stay those of one group
-      pub passed-sound : one.Sound (next .lows) (next .highs)
+      pub passed-sound : one.SoundRanges (next .lows) (next .highs)
       passed-sound = laws.sound (after .valid) (omega (arith, after .inside .sameLows, unsettled .ready .few))
 
       -- a pass that leaves the sum of widths changes nothing: the table is settled

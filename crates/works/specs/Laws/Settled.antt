@@ -6,15 +6,15 @@ use mathlib.Core.Option.{none, some}
 use mathlib.Core.Path.{_≡_, refl, ap}
 use native.Mathlib.Omega.{arith}
 use Rattle.model.specs.Groups.{Group}
-use Rattle.works.specs.Consistency.{Sound, Apart, Consistent, NoneInside}
-use Rattle.works.specs.Settling.{Outcome, Passed, pass, passesOf, settledTable, settleFrom, settle}
+use Rattle.works.specs.Consistency.{SoundOpening, Apart, Consistent, NoneInside}
+use Rattle.works.specs.Settling.{Outcome, AfterPass, pass, passesOf, settledTable, settleFrom, settle}
 use Rattle.works.specs.Tables.{Table, lowOf, highOf, width, Inside}
 use Rattle.works.specs.Endings.{Greatest}
 use Rattle.works.specs.Laws.Ends.{Right, settle-right}
 use Rattle.works.specs.Laws.Inside.{inside-refl, inside-both, table-same}
 use Rattle.works.specs.Laws.Passes.{sound-inside, pass-after, pass-keeps}
 
-module _ {groups : List Group} {table : Table} (sound : Sound groups table) where
+module _ {groups : List Group} {table : Table} (sound : SoundOpening groups table) where
   -- the settled table is the greatest consistent one inside the opening table
   greatest : {final : Table} {passes : ℕ} → settle groups table ≡ Outcome.settled final passes → Greatest groups table final
   greatest e = settled-right (rw e at (settle-right groups table sound))
@@ -60,17 +60,17 @@ module _ {groups : List Group} {table : Table} (sound : Sound groups table) wher
       right-bound (Right.refused right bound) = bound
 
 -- settling a consistent table takes one pass and changes nothing
-pub consistent-settles : {groups : List Group} {table : Table} → Sound groups table → Consistent groups table
+pub consistent-settles : {groups : List Group} {table : Table} → SoundOpening groups table → Consistent groups table
     → settle groups table ≡ Outcome.settled table 1
 unfolding settle settleFrom
 consistent-settles {groups} {table} sound consistent =
     let (next, passing, kept) = pass-keeps 1 groups table sound consistent (inside-refl table) in
     let same : next ≡ table = inside-both (pass-after 1 groups table next sound passing .inside) kept in
-    let quiet : pass groups table ≡ Passed.passed table = rw same at passing in
+    let quiet : pass groups table ≡ AfterPass.passed table = rw same at passing in
     rw (quiet, settleFrom, table-same table)
 
 -- settling a settled table takes one pass and changes nothing
-pub settled-again : {groups : List Group} {table final : Table} {passes : ℕ} → Sound groups table
+pub settled-again : {groups : List Group} {table final : Table} {passes : ℕ} → SoundOpening groups table
     → settle groups table ≡ Outcome.settled final passes → settle groups final ≡ Outcome.settled final 1
 settled-again sound e =
     consistent-settles
@@ -78,13 +78,13 @@ settled-again sound e =
     (settled-consistent sound e)
 
 -- any two orders of the groups give the same settled table, or both are refused for want of a plan
-pub any-order : {groups others : List Group} {table : Table} → Sound groups table
+pub any-order : {groups others : List Group} {table : Table} → SoundOpening groups table
     → ((group : Group) → List·Memᴰ group groups ↔ List·Memᴰ group others)
     → settledTable (settle groups table) ≡ settledTable (settle others table)
 any-order {groups} {others} {table} sound same =
     agree (settle-right groups table sound) (settle-right others table others-sound)
   where
-    others-sound : Sound others table
+    others-sound : SoundOpening others table
     others-sound = record { valid = sound .valid; each = λ group member. sound .each group (same group .1 member) }
 
     there : {inner : Table} → Consistent groups inner → Consistent others inner

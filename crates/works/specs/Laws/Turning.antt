@@ -13,7 +13,8 @@ use Rattle.model.specs.Laws.Lists.{ranges-length}
 use Rattle.model.specs.Plans.{turnOf, narrowedLows, narrowedHighs}
 use Rattle.model.specs.declared.Turn.{Turn}
 use Rattle.model.specs.declared.Turn.the-variants.{Narrowed, NoPlan}
-use Rattle.works.specs.Inner.Asked.{Turning, Room, Workspace}
+use Rattle.model.specs.Shares.{mostUnits}
+use Rattle.works.specs.Inner.Asked.{Turning, MemberLists, MemberRoom}
 use Rattle.works.specs.Settling.{revisedBy, narrowed, revise}
 use Rattle.works.specs.Tables.{Table, Named, tableOf, units, scatter, lowsOf, highsOf}
 use Rattle.works.specs.Laws.Sizes.{size-few}
@@ -31,19 +32,19 @@ module _ {table : Table} {group : Group} (turning : Turning table group) where
   highs-named = rw (ranges-length (turning .valid)) members-named
 
   -- the gathered ranges are those of one group
-  pub gathered-sound : {lows highs : List ℕ} → lows ≡ lowsOf table group → highs ≡ highsOf table group → one.Sound lows highs
+  pub gathered-sound : {lows highs : List ℕ} → lows ≡ lowsOf table group → highs ≡ highsOf table group → one.SoundRanges lows highs
   gathered-sound is-lows is-highs =
       rw (is-lows, is-highs)
       (laws.sound (gathered table group (turning .valid) (turning .sound))
       (omega (arith, size-few (turning .sound), turning .few, gather-length (table .lows) (group .members))))
 
   -- they are at most 256
-  pub count-few : size group ≤ one.greatestCount
+  pub count-few : size group ≤ mostUnits
   count-few = omega (arith, size-few (turning .sound), turning .few)
 
   -- working lists have room for them
-  pub room : {lows highs members : List ℕ} {count : ℕ} → Workspace lows highs → members ≡ group .members → size group ≡ count
-      → Room (length members) (take count lows) (take count highs)
+  pub room : {lows highs members : List ℕ} {count : ℕ} → MemberRoom lows highs → members ≡ group .members → size group ≡ count
+      → MemberLists (length members) (take count lows) (take count highs)
   room {lows} {highs} {members} {count} space is-members counted =
       let sized : length members ≡ count = ap length is-members ∙ counted in
       record {

@@ -129,7 +129,7 @@ module _ (table : Table) (group : Group) (valid : Valid table) (sound : SoundGro
         let (xs, plan, value) = supported .taken k h v low high in
         (xs, plan-widen gathered-inside plan, value)
       where
-        gathered-inside : keeping.Inside (lowsOf inner group) (highsOf inner group) (lowsOf table group) (highsOf table group)
+        gathered-inside : keeping.RangesInside (lowsOf inner group) (highsOf inner group) (lowsOf table group) (highsOf table group)
         gathered-inside =
             record {
               sameLows = omega (arith, gather-length (inner .lows) (group .members), gather-length (table .lows) (group .members));

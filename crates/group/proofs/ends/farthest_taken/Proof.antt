@@ -11,7 +11,7 @@ use Rattle.group.specs.Inner.Edges.{Approach}
 use Rattle.group.specs.Inner.Flanks.{Search}
 use Rattle.group.specs.Laws.Edges.{nearest-reach, nearest-edge}
 use Rattle.group.specs.Laws.Flanks.{flanking-of, row-edge}
-use Rattle.group.specs.Laws.Reaching.{Moved, probes, room, moved, share-reach}
+use Rattle.group.specs.Laws.Reaching.{MovedIntoReach, probes, room, moved, share-reach}
 use Rattle.group.proofs.ends.farthest_taken.Statement.{statement}
 use Rattle.group.proofs.ends.farthest_taken.Tie as tie
 
@@ -58,7 +58,7 @@ module _ (c : tie.After-into-reach) where
   way : Approach lows highs (start .args .table .now) total limits i (start .args .end) (start .args .share .value)
   way = start .pre
 
-  there : Moved way (c .into-reach .result)
+  there : MovedIntoReach way (c .into-reach .result)
   there = moved way (c .into-reach .ensures)
 
 last-within-requires : tie.Need-last-within-requires

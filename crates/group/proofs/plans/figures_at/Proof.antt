@@ -11,7 +11,7 @@ use Rattle.model.specs.Laws.Spread.{cauchy-schwarz}
 use Rattle.model.specs.Shares.{Within, greatestShare, sumOf, greatestTotal}
 use Rattle.model.specs.Figures.{apart, deviation, spread}
 use Rattle.model.specs.Levels.{topped}
-use Rattle.model.specs.Laws.Walk.{Passed, passed-step, passed-all}
+use Rattle.model.specs.Laws.Walk.{SummedBefore, passed-step, passed-all}
 use Rattle.model.specs.Laws.Lists.{ranges-at, within-length}
 use Rattle.group.specs.Laws.Bounds.{share-at-small, sum-small, squares-small, deviation-small}
 use Rattle.group.proofs.plans.figures_at.Statement.{statement}
@@ -20,8 +20,8 @@ use Rattle.group.proofs.plans.figures_at.Tie as tie
 abbrev Inv-loop : tie.InvT-loop
 Inv-loop lows highs v left total count rest₀ deviation₀ squares₀ i₀ rest deviation squares i =
     (i ≤ length lows)
-    × Passed (λ x. apart (length lows * x) total) lows highs v left rest i deviation
-    × Passed (λ x. x * x) lows highs v left rest i squares
+    × SummedBefore (λ x. apart (length lows * x) total) lows highs v left rest i deviation
+    × SummedBefore (λ x. x * x) lows highs v left rest i squares
 
 abbrev μ-loop : tie.MeasureT-loop
 μ-loop lows highs v left total count rest₀ deviation₀ squares₀ i₀ rest deviation squares i = length lows - i
@@ -99,8 +99,8 @@ module _ (c : tie.After-clamp Inv-loop μ-loop) where
       (c .clamp .ensures) (c .before .before .before .extra .ensures)
 
   -- one member more is passed, whatever is added up
-  step : (f : ℕ → ℕ) (passed : ℕ) → Passed f lows highs (start .args .v) (start .args .left) (turn .loop .rest) (turn .loop .i) passed
-      → Passed f lows highs (start .args .v) (start .args .left) (turn .loop .rest - more) (turn .loop .i + 1) (passed + f share)
+  step : (f : ℕ → ℕ) (passed : ℕ) → SummedBefore f lows highs (start .args .v) (start .args .left) (turn .loop .rest) (turn .loop .i) passed
+      → SummedBefore f lows highs (start .args .v) (start .args .left) (turn .loop .rest - more) (turn .loop .i + 1) (passed + f share)
   step f passed held =
       passed-step f lows highs (turn .loop .i) (omega arith) (omega arith) (start .args .v) (start .args .left) (turn .loop .rest) passed
       (c .clamp .result) more (c .clamp .ensures) (c .before .before .before .extra .ensures) held
@@ -151,7 +151,7 @@ module _ (c : tie.After-loop Inv-loop μ-loop) where
   end = c .before
 
   all : (f : ℕ → ℕ) (passed : ℕ)
-      → Passed f (begun .args .lows .now) (begun .args .highs .now) (begun .args .v) (begun .args .left) (end .loop .rest) (end .loop .i) passed
+      → SummedBefore f (begun .args .lows .now) (begun .args .highs .now) (begun .args .v) (begun .args .left) (end .loop .rest) (end .loop .i) passed
       → passed ≡ sumOf f (shares begun)
   all f passed held =
       passed-all f (begun .args .lows .now) (begun .args .highs .now) (begun .args .v) (begun .args .left) (end .loop .rest) (end .loop .i)

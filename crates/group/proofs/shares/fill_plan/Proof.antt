@@ -4,13 +4,13 @@ use native.Mathlib.Omega.{arith}
 use Prim.Native.Nat.{_-_, _≤_}
 use lib.ListN.{length}
 use Rattle.model.specs.Laws.Lists.{ranges-at}
-use Rattle.model.specs.Laws.Walk.{Written, written-none, written-step, written-all}
+use Rattle.model.specs.Laws.Walk.{SharesWritten, written-none, written-step, written-all}
 use Rattle.group.specs.Laws.Bounds.{share-at-small}
 use Rattle.group.proofs.shares.fill_plan.Statement.{statement}
 use Rattle.group.proofs.shares.fill_plan.Tie as tie
 
 abbrev Inv-loop : tie.InvT-loop
-Inv-loop lows highs v left plan₀ rest₀ i₀ plan rest i = (i ≤ length lows) × Written lows highs v left rest i plan₀ plan
+Inv-loop lows highs v left plan₀ rest₀ i₀ plan rest i = (i ≤ length lows) × SharesWritten lows highs v left rest i plan₀ plan
 
 abbrev μ-loop : tie.MeasureT-loop
 μ-loop lows highs v left plan₀ rest₀ i₀ plan rest i = length lows - i

@@ -5,7 +5,7 @@ use lib.ListN.{length}
 use mathlib.Core.Path.{_≡_, sym}
 use Rattle.text.specs.Parsed.{parsed, andThen, mapped, word}
 use Rattle.text.specs.Laws.Parsed.{mapped-parsed}
-use Rattle.text.specs.Inner.Spots.{left, stepped}
+use Rattle.text.specs.Inner.Spots.{bytesFrom, stepped}
 use Rattle.text.specs.Laws.Spots.{told}
 use Rattle.job.specs.Form.{groupEnding, headAs, membersAs, groupAs}
 use Rattle.text.specs.Inner.Numbers.{held}
@@ -18,7 +18,7 @@ use Rattle.job.proofs.lines.group_line.Tie as tie
 
 -- what is left after the head
 abbrev after-head : tie.After-head → List ℕ
-after-head c = left (c .before .before .before .before .before .args .text .now) (c .head .given .0 .1 .0)
+after-head c = bytesFrom (c .before .before .before .before .before .args .text .now) (c .head .given .0 .1 .0)
 
 -- what the line is read with
 abbrev start : tie.After-read-members → tie.Start
@@ -29,7 +29,7 @@ abbrev Numbered : tie.After-read-members → Type 0
 Numbered c =
     let rest = after-head (c .before .before .before) in
     (ms : List ℕ)
-    × (membersAs held (length rest) rest ≡ parsed ms (left (start c .args .text .now) (c .read-members .result .next)))
+    × (membersAs held (length rest) rest ≡ parsed ms (bytesFrom (start c .args .text .now) (c .read-members .result .next)))
     × (tallied (start c .args .units) (start c .args .from) (start c .args .flat .now) ms ≡ record { count = c .read-members .result .count; within = c .read-members .result .within; flat = c .read-members .last .1 .1 .0 })
 
 head-line-requires : tie.Need-head-line-requires
@@ -46,7 +46,7 @@ unfolding groupAs andThen mapped
 returns c = rw (told (headSeen _) (c .before .before .head-line .ensures) (c .enum-told .given .1))
 
 -- the head is read
-head : (c : tie.After-head) → headAs held (left (c .before .before .before .before .before .args .text .now) (c .before .before .before .before .before .args .spot)) ≡ parsed (c .head .given .0 .0) (after-head c)
+head : (c : tie.After-head) → headAs held (bytesFrom (c .before .before .before .before .before .args .text .now) (c .before .before .before .before .before .args .spot)) ≡ parsed (c .head .given .0 .0) (after-head c)
 head c = told (headSeen _) (c .before .before .head-line .ensures) (c .head .given .1)
 
 read-members-requires : tie.Need-read-members-requires
@@ -79,7 +79,7 @@ returns-2 c =
     rw (head (c .before .before .before .before .before .before .before .before .before .before), members (c .before .before .before .before .before .before .before) .1, told (stepped _) (c .before .before .word .ensures) (c .enum-told2 .given .1))
 
 -- and the line's end
-ending : (c : tie.After-next) → word groupEnding (left (start (c .before .before .before .before .before .before .before) .args .text .now) (c .before .before .before .before .before .before .before .read-members .result .next)) ≡ parsed tt (left (start (c .before .before .before .before .before .before .before) .args .text .now) (c .next .given .0 .0))
+ending : (c : tie.After-next) → word groupEnding (bytesFrom (start (c .before .before .before .before .before .before .before) .args .text .now) (c .before .before .before .before .before .before .before .read-members .result .next)) ≡ parsed tt (bytesFrom (start (c .before .before .before .before .before .before .before) .args .text .now) (c .next .given .0 .0))
 ending c = told (stepped _) (c .before .before .word .ensures) (c .next .given .1)
 
 same-length-2 : tie.Need-same-length-2

@@ -3,7 +3,7 @@ use mathlib.Core.Path.{_≡_}
 use borrow.Author.Needs.{needs}
 use Rattle.text.specs.Parsed.{parsed, andThen, mapped}
 use Rattle.text.specs.Inner.Numbers.{held}
-use Rattle.text.specs.Inner.Spots.{left, stepped, counted}
+use Rattle.text.specs.Inner.Spots.{bytesFrom, stepped, counted}
 use Rattle.text.specs.Laws.Spots.{told}
 use Rattle.job.specs.Form.{groupOpening, deviationOpening, spreadOpening, numberAs, limitAs, headAs}
 use Rattle.job.specs.Inner.LinesRead.{limitSeen}
@@ -27,7 +27,7 @@ unfolding headAs numberAs andThen mapped
 returns c = rw (told (counted _) (c .before .before .number-after .ensures) (c .enum-told .given .1))
 
 -- the total is read
-total : (c : tie.After-total) → numberAs held groupOpening (left (c .before .before .before .before .before .args .text .now) (c .before .before .before .before .before .args .spot)) ≡ parsed (c .total .given .0 .0) (left (c .before .before .before .before .before .args .text .now) (c .total .given .0 .1 .0))
+total : (c : tie.After-total) → numberAs held groupOpening (bytesFrom (c .before .before .before .before .before .args .text .now) (c .before .before .before .before .before .args .spot)) ≡ parsed (c .total .given .0 .0) (bytesFrom (c .before .before .before .before .before .args .text .now) (c .total .given .0 .1 .0))
 unfolding numberAs
 total c = told (counted _) (c .before .before .number-after .ensures) (c .total .given .1)
 
@@ -48,7 +48,7 @@ unfolding headAs numberAs andThen mapped
 returns-2 c = rw (total (c .before .before .before .before .before), told (limitSeen _) (c .before .before .limit-after .ensures) (c .enum-told2 .given .1))
 
 -- the deviation limit after it
-deviation : (c : tie.After-deviation) → limitAs held deviationOpening (left (c .before .before .before .before .before .before .before .before .before .before .args .text .now) (c .before .before .before .before .before .total .given .0 .1 .0)) ≡ parsed (c .deviation .given .0 .0) (left (c .before .before .before .before .before .before .before .before .before .before .args .text .now) (c .deviation .given .0 .1 .0))
+deviation : (c : tie.After-deviation) → limitAs held deviationOpening (bytesFrom (c .before .before .before .before .before .before .before .before .before .before .args .text .now) (c .before .before .before .before .before .total .given .0 .1 .0)) ≡ parsed (c .deviation .given .0 .0) (bytesFrom (c .before .before .before .before .before .before .before .before .before .before .args .text .now) (c .deviation .given .0 .1 .0))
 deviation c = told (limitSeen _) (c .before .before .limit-after .ensures) (c .deviation .given .1)
 
 slice-aggregate-limit-after-2 : tie.Need-slice-aggregate-limit-after-2
@@ -68,7 +68,7 @@ unfolding headAs numberAs andThen mapped
 returns-3 c = rw (total (c .before .before .before .before .before .before .before .before .before .before), deviation (c .before .before .before .before .before), told (limitSeen _) (c .before .before .limit-after2 .ensures) (c .enum-told3 .given .1))
 
 -- and the spread limit after that
-spread : (c : tie.After-spread) → limitAs held spreadOpening (left (c .before .before .before .before .before .before .before .before .before .before .before .before .before .before .before .args .text .now) (c .before .before .before .before .before .deviation .given .0 .1 .0)) ≡ parsed (c .spread .given .0 .0) (left (c .before .before .before .before .before .before .before .before .before .before .before .before .before .before .before .args .text .now) (c .spread .given .0 .1 .0))
+spread : (c : tie.After-spread) → limitAs held spreadOpening (bytesFrom (c .before .before .before .before .before .before .before .before .before .before .before .before .before .before .before .args .text .now) (c .before .before .before .before .before .deviation .given .0 .1 .0)) ≡ parsed (c .spread .given .0 .0) (bytesFrom (c .before .before .before .before .before .before .before .before .before .before .before .before .before .before .before .args .text .now) (c .spread .given .0 .1 .0))
 spread c = told (limitSeen _) (c .before .before .limit-after2 .ensures) (c .spread .given .1)
 
 slice-aggregate-word : tie.Need-slice-aggregate-word

@@ -3,7 +3,7 @@ use mathlib.Core.Path.{_≡_}
 use borrow.Author.Needs.{needs}
 use Rattle.text.specs.Parsed.{parsed, failed, andThen, mapped, orElse, word}
 use Rattle.text.specs.Numbers.{numberAfter}
-use Rattle.text.specs.Inner.Spots.{left, stepped, counted}
+use Rattle.text.specs.Inner.Spots.{bytesFrom, stepped, counted}
 use Rattle.text.specs.Laws.Spots.{told}
 use Rattle.job.specs.Form.{anyWord, numberAs, limitAs}
 use Rattle.job.proofs.lines.limit_after.Statement.{statement}
@@ -23,7 +23,7 @@ unfolding limitAs numberAs numberAfter andThen mapped orElse word
 returns c = rw (told (stepped _) (c .before .before .word .ensures) (c .enum-told .given .1))
 
 -- the word is read
-opening : (c : tie.After-spot) → let a = c .before .before .before .before .before .args in word (a .bytes .now) (left (a .text .now) (a .spot)) ≡ parsed tt (left (a .text .now) (c .spot .given .0 .0))
+opening : (c : tie.After-spot) → let a = c .before .before .before .before .before .args in word (a .bytes .now) (bytesFrom (a .text .now) (a .spot)) ≡ parsed tt (bytesFrom (a .text .now) (c .spot .given .0 .0))
 opening c = told (stepped _) (c .before .before .word .ensures) (c .spot .given .1)
 
 slice-aggregate-word : tie.Need-slice-aggregate-word
@@ -43,7 +43,7 @@ enum-told-2 : tie.Need-enum-told-2
 enum-told-2 c = search needs
 
 -- and any does not stand after it
-no-any : (c : tie.After-enum-told2) → word anyWord (left (c .before .before .before .before .before .before .before .before .before .before .args .text .now) (c .before .before .before .before .before .spot .given .0 .0)) ≡ failed
+no-any : (c : tie.After-enum-told2) → word anyWord (bytesFrom (c .before .before .before .before .before .before .before .before .before .before .args .text .now) (c .before .before .before .before .before .spot .given .0 .0)) ≡ failed
 no-any c = told (stepped _) (c .before .before .word2 .ensures) (c .enum-told2 .given .1)
 
 number-requires : tie.Need-number-requires

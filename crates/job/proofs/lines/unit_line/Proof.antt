@@ -3,7 +3,7 @@ use mathlib.Core.Path.{_≡_}
 use borrow.Author.Needs.{needs}
 use Rattle.text.specs.Parsed.{parsed, andThen, mapped}
 use Rattle.text.specs.Inner.Numbers.{held}
-use Rattle.text.specs.Inner.Spots.{left, stepped, counted}
+use Rattle.text.specs.Inner.Spots.{bytesFrom, stepped, counted}
 use Rattle.text.specs.Laws.Spots.{told}
 use Rattle.job.specs.Form.{unitOpening, space, numberAs, unitAs}
 use Rattle.job.proofs.lines.unit_line.Statement.{statement}
@@ -26,7 +26,7 @@ unfolding unitAs numberAs andThen mapped
 returns c = rw (told (counted _) (c .before .before .number-after .ensures) (c .enum-told .given .1))
 
 -- the low is read
-low : (c : tie.After-low) → numberAs held unitOpening (left (c .before .before .before .before .before .args .text .now) (c .before .before .before .before .before .args .spot)) ≡ parsed (c .low .given .0 .0) (left (c .before .before .before .before .before .args .text .now) (c .low .given .0 .1 .0))
+low : (c : tie.After-low) → numberAs held unitOpening (bytesFrom (c .before .before .before .before .before .args .text .now) (c .before .before .before .before .before .args .spot)) ≡ parsed (c .low .given .0 .0) (bytesFrom (c .before .before .before .before .before .args .text .now) (c .low .given .0 .1 .0))
 unfolding numberAs
 low c = told (counted _) (c .before .before .number-after .ensures) (c .low .given .1)
 
@@ -47,7 +47,7 @@ unfolding unitAs numberAs andThen mapped
 returns-2 c = rw (low (c .before .before .before .before .before), told (counted _) (c .before .before .number-after2 .ensures) (c .enum-told2 .given .1))
 
 -- and the high after it
-high : (c : tie.After-high) → numberAs held space (left (c .before .before .before .before .before .before .before .before .before .before .args .text .now) (c .before .before .before .before .before .low .given .0 .1 .0)) ≡ parsed (c .high .given .0 .0) (left (c .before .before .before .before .before .before .before .before .before .before .args .text .now) (c .high .given .0 .1 .0))
+high : (c : tie.After-high) → numberAs held space (bytesFrom (c .before .before .before .before .before .before .before .before .before .before .args .text .now) (c .before .before .before .before .before .low .given .0 .1 .0)) ≡ parsed (c .high .given .0 .0) (bytesFrom (c .before .before .before .before .before .before .before .before .before .before .args .text .now) (c .high .given .0 .1 .0))
 unfolding numberAs
 high c = told (counted _) (c .before .before .number-after2 .ensures) (c .high .given .1)
 

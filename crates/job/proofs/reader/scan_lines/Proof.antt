@@ -35,9 +35,10 @@ use denote.Triple.Table.{cited}
 use denote.Triple.Walked.{needs, AllGo, goes-none-slice, goes-slice, Walks, walked}
 use denote.Exit.{yes}
 use Rattle.groups.specs.Inner.Flat.{mostFlat}
-use Rattle.job.specs.Job.{mostBytes, mostUnits}
+use Rattle.job.specs.Job.{mostBytes}
 use Rattle.job.specs.Laws.Scanning.{start}
 use Rattle.job.specs.declared.steps.Progress.{Progress}
+use Rattle.model.specs.Shares.{mostUnits}
 use Rattle.job.proofs.Closing.{proved}
 use Rattle.job.proofs.reader.scan_lines.Proof.Calls.{sliceOf, New, End, Line, Moved, Counted, makes}
 use Rattle.job.proofs.steps.Progress as P

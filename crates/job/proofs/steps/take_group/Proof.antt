@@ -6,11 +6,11 @@ use Rattle.model.specs.Figures.{greatestDeviation, greatestSpread}
 use Rattle.text.specs.Parsed.{mapped}
 use Rattle.text.specs.Laws.Parsed.{mapped-failed}
 use Rattle.text.specs.Inner.Numbers.{held}
-use Rattle.text.specs.Inner.Spots.{left}
+use Rattle.text.specs.Inner.Spots.{bytesFrom}
 use Rattle.text.specs.Laws.Spots.{told}
 use Rattle.groups.specs.Inner.Flat.{flatLength}
 use Rattle.job.specs.Form.{group, groupAs}
-use Rattle.job.specs.Job.{first, headVerdict, membersVerdict, add, stepOn}
+use Rattle.job.specs.Job.{firstRefusal, headVerdict, membersVerdict, add, stepOn}
 use Rattle.job.specs.Inner.LinesRead.{groupSeen}
 use Rattle.job.specs.Inner.Tally.{groupTally}
 use Rattle.job.specs.Laws.Tally.{GroupFacts, group-facts, numbersOf}
@@ -52,14 +52,14 @@ returns c = λ job lows₀ highs₀ flat₀ lows highs holds.
     let l = c .before .before .before .before .before in
     let a = l .before .before .before .before .args in
     let none = told (groupSeen (a .text .now) _) (l .group-line .ensures) (c .before .enum-told .given .1) in
-    rw (c .refuse .ensures, mapped-failed (groupTally (a .progress .units) (membersFrom (a .progress)) (a .flat .now)) (groupAs held (left (a .text .now) (a .spot))) none)
+    rw (c .refuse .ensures, mapped-failed (groupTally (a .progress .units) (membersFrom (a .progress)) (a .flat .now)) (groupAs held (bytesFrom (a .text .now) (a .spot))) none)
     (not-in-form job (a .progress) _ holds)
 
 -- what is known of the line once it was read
 seen : (h : tie.After-head) →
     let s = h .before .before .before .before .before .before .before .before in
     let m = h .head .given .0 .1 .0 in
-    GroupFacts (s .args .progress .units) (membersFrom (s .args .progress)) (s .args .flat .now) (h .before .before .before .before .group-line .last .1 .1 .0) (left (s .args .text .now) (s .args .spot)) (left (s .args .text .now) (m .next)) (h .head .given .0 .0) (m .count) (m .within)
+    GroupFacts (s .args .progress .units) (membersFrom (s .args .progress)) (s .args .flat .now) (h .before .before .before .before .group-line .last .1 .1 .0) (bytesFrom (s .args .text .now) (s .args .spot)) (bytesFrom (s .args .text .now) (m .next)) (h .head .given .0 .0) (m .count) (m .within)
 seen h =
     let l = h .before .before .before .before in
     group-facts _ _ (l .before .before .before .before .args .flat .now) _ _ _ _ _ _ (told (groupSeen (l .before .before .before .before .args .text .now) _) (l .group-line .ensures) (h .head .given .1))
@@ -75,7 +75,7 @@ verdict : (c : tie.After-group-verdict) →
     let h = c .before .before .before in
     let p = h .before .before .before .before .before .before .before .before .args .progress in
     let g = seen h .line in
-    c .group-verdict .result ≡ first (headVerdict (p .groups) (p .memberships) (g .total) (g .limits) (length (numbersOf g))) (membersVerdict (p .units) (numbersOf g))
+    c .group-verdict .result ≡ firstRefusal (headVerdict (p .groups) (p .memberships) (g .total) (g .limits) (length (numbersOf g))) (membersVerdict (p .units) (numbersOf g))
 verdict c =
     let h = c .before .before .before in
     let s = h .before .before .before .before .before .before .before .before in

@@ -24,8 +24,8 @@ use denote.Steps.{nothing}
 use denote.Triple.Entry.{Args, Vals, alive, onEntry}
 use denote.Triple.Spec.{tripleOf}
 use denote.Triple.Statement.{Contract}
-use Rattle.table.specs.Tables.{lowsOf, highsOf}
-use Rattle.job.specs.Reading.{Filled}
+use Rattle.table.specs.Tables.{lowsIn, highsIn}
+use Rattle.job.specs.Reading.{ReadInto}
 use Rattle.job.specs.declared.Reading.{Reading}
 use Rattle.planner.specs.declared.ForeignRead.{ForeignRead}
 use Rattle.planner.specs.Foreign.{foreignRead}
@@ -60,7 +60,7 @@ module _ {M : Type 1} (𝓤 : URA M) (H : Heap 𝓤) (A : Atoms 𝓤) (mem : Mem
 
   -- what table::read ensures of its answer says what is promised of the answer that crosses
   turned : (κs : Lfts 2) (a : Args here.signature κs) (r : Reading) (d : ForeignRead) → d ≡ foreignRead r → ent 𝓤 (read.spec 𝓤 H A mem run κs a .ensures tt r) (here.spec 𝓤 H A mem run κs a .ensures tt d)
-  turned κs a r d e = follows 𝓤 H A here.signature (here.ended .kept) κs a (λ o. Filled (now (a .0)) (lowsOf (now (a .1 .0))) (highsOf (now (a .1 .0))) (lowsOf (now (o .1 .0))) (highsOf (now (o .1 .0))) r) (here.clauses 𝓤 H A mem run κs a .ensures tt d) (λ o s.
+  turned κs a r d e = follows 𝓤 H A here.signature (here.ended .kept) κs a (λ o. ReadInto (now (a .0)) (lowsIn (now (a .1 .0))) (highsIn (now (a .1 .0))) (lowsIn (now (o .1 .0))) (highsIn (now (o .1 .0))) r) (here.clauses 𝓤 H A mem run κs a .ensures tt d) (λ o s.
       and-says 𝓤 H A (e ∙ ap foreignRead (s .answer)) (and-says 𝓤 H A (s .lows-are) (factI 𝓤 _ _ (s .highs-are))))
 
   walk : (W : Given 𝓤 H A) → Walk 𝓤 H A here.signature (here.spec 𝓤 H A mem run) at W code.function #table·read On #out Off

@@ -25,7 +25,7 @@ use denote.Steps.{nothing}
 use denote.Triple.Entry.{Args, Vals, alive, onEntry}
 use denote.Triple.Spec.{tripleOf}
 use denote.Triple.Statement.{Contract}
-use Rattle.table.specs.Tables.{lowsOf, highsOf}
+use Rattle.table.specs.Tables.{lowsIn, highsIn}
 use Rattle.report.specs.Calls.{Reported, reported, reportText}
 use Rattle.report.specs.declared.Reporting.{Reporting}
 use Rattle.planner.specs.declared.ForeignReport.{ForeignReport}
@@ -61,7 +61,7 @@ module _ {M : Type 1} (𝓤 : URA M) (H : Heap 𝓤) (A : Atoms 𝓤) (mem : Mem
 
   -- what table::report ensures of its answer says what is promised of the answer that crosses
   turned : (κs : Lfts 4) (a : Args here.signature κs) (r : Reporting) (d : ForeignReport) → d ≡ foreignReport r → ent 𝓤 (report.spec 𝓤 H A mem run κs a .ensures tt r) (here.spec 𝓤 H A mem run κs a .ensures tt d)
-  turned κs a r d e = follows 𝓤 H A here.signature (here.ended .kept) κs a (λ o. reported r (lowsOf (now (o .1 .0))) (highsOf (now (o .1 .0))) (now (o .1 .1 .1 .0)) ≡ reportText (now (a .0)) (lowsOf (now (a .1 .0))) (highsOf (now (a .1 .0))) (length (now (a .1 .1 .0))) (now (a .1 .1 .1 .0))) (here.clauses 𝓤 H A mem run κs a .ensures tt d) (λ o s.
+  turned κs a r d e = follows 𝓤 H A here.signature (here.ended .kept) κs a (λ o. reported r (lowsIn (now (o .1 .0))) (highsIn (now (o .1 .0))) (now (o .1 .1 .1 .0)) ≡ reportText (now (a .0)) (lowsIn (now (a .1 .0))) (highsIn (now (a .1 .0))) (length (now (a .1 .1 .0))) (now (a .1 .1 .1 .0))) (here.clauses 𝓤 H A mem run κs a .ensures tt d) (λ o s.
       and-says 𝓤 H A (e ∙ ap (λ (z : Reported). foreignReport (z .answer)) s) (and-says 𝓤 H A (ap (λ (z : Reported). z .lows) s) (and-says 𝓤 H A (ap (λ (z : Reported). z .highs) s) (factI 𝓤 _ _ (ap (λ (z : Reported). z .buffer) s)))))
 
   walk : (W : Given 𝓤 H A) → Walk 𝓤 H A here.signature (here.spec 𝓤 H A mem run) at W code.function #table·report On #out Off

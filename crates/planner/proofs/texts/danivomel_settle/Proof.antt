@@ -25,7 +25,7 @@ use denote.Steps.{nothing}
 use denote.Triple.Entry.{Args, Vals, alive, onEntry}
 use denote.Triple.Spec.{tripleOf}
 use denote.Triple.Statement.{Contract}
-use Rattle.table.specs.Tables.{lowsOf, highsOf}
+use Rattle.table.specs.Tables.{lowsIn, highsIn}
 use Rattle.works.specs.Calls.{Settlement, settlement, settleText}
 use Rattle.works.specs.declared.Settling.{Settling}
 use Rattle.planner.specs.declared.ForeignSettled.{ForeignSettled}
@@ -61,7 +61,7 @@ module _ {M : Type 1} (𝓤 : URA M) (H : Heap 𝓤) (A : Atoms 𝓤) (mem : Mem
 
   -- what table::settle ensures of its answer says what is promised of the answer that crosses
   turned : (κs : Lfts 3) (a : Args here.signature κs) (r : Settling) (d : ForeignSettled) → d ≡ foreignSettled r → ent 𝓤 (settle.spec 𝓤 H A mem run κs a .ensures tt r) (here.spec 𝓤 H A mem run κs a .ensures tt d)
-  turned κs a r d e = follows 𝓤 H A here.signature (here.ended .kept) κs a (λ o. settlement r (lowsOf (now (o .1 .0))) (highsOf (now (o .1 .0))) ≡ settleText (now (a .0)) (lowsOf (now (a .1 .0))) (highsOf (now (a .1 .0))) (length (now (a .1 .1 .0)))) (here.clauses 𝓤 H A mem run κs a .ensures tt d) (λ o s.
+  turned κs a r d e = follows 𝓤 H A here.signature (here.ended .kept) κs a (λ o. settlement r (lowsIn (now (o .1 .0))) (highsIn (now (o .1 .0))) ≡ settleText (now (a .0)) (lowsIn (now (a .1 .0))) (highsIn (now (a .1 .0))) (length (now (a .1 .1 .0)))) (here.clauses 𝓤 H A mem run κs a .ensures tt d) (λ o s.
       and-says 𝓤 H A (e ∙ ap (λ (z : Settlement). foreignSettled (z .answer)) s) (and-says 𝓤 H A (ap (λ (z : Settlement). z .lows) s) (factI 𝓤 _ _ (ap (λ (z : Settlement). z .highs) s))))
 
   walk : (W : Given 𝓤 H A) → Walk 𝓤 H A here.signature (here.spec 𝓤 H A mem run) at W code.function #table·settle On #out Off

@@ -5,12 +5,12 @@ use mathlib.Core.Path.{_≡_, refl, _∙_}
 use native.Mathlib.Numerals.{add-one}
 use Prim.Native.Nat.{_-_, _*_}
 use lib.ListN.{length}
-use Rattle.probe.specs.Laws.Fills.{Filled, filled-first, filled-next, filled-all}
+use Rattle.probe.specs.Laws.Fills.{RowsTo, filled-first, rows-next, rows-all}
 use Rattle.probe.proofs.build.fill.Statement.{statement}
 use Rattle.probe.proofs.build.fill.Tie as tie
 
 abbrev Inv-loop : tie.InvT-loop
-Inv-loop lows highs starts stops total table₀ last k₀ table k = Filled lows highs starts stops total k table × (length table ≡ length table₀)
+Inv-loop lows highs starts stops total table₀ last k₀ table k = RowsTo lows highs starts stops total k table × (length table ≡ length table₀)
 
 abbrev μ-loop : tie.MeasureT-loop
 μ-loop lows highs starts stops total table₀ last k₀ table k = 2 * length lows - k
@@ -56,7 +56,7 @@ loop-again c =
     let w = c .before .before in
     let n = w .before .before in
     let t = n .before .before .before .before in (
-      rw add-one (filled-next (t .loop .inv .0) (omega arith)
+      rw add-one (rows-next (t .loop .inv .0) (omega arith)
           (rw (n .before .read-row .ensures) at (n .next-row .ensures)) (rw add-one at (w .write-row2 .ensures))),
       w .write-row2 .ensures .same ∙ t .loop .inv .1,
     )
@@ -65,7 +65,7 @@ same-length : tie.Need-same-length Inv-loop μ-loop
 same-length c = c .before .loop .inv .1 ∙ c .before .before .before .before .write-row .ensures .same
 
 returns : tie.Need-returns Inv-loop μ-loop
-returns c = filled-all (start (c .before) .pre .0) (start (c .before) .pre .1 .0) (c .before .loop .inv .0) (omega arith)
+returns c = rows-all (start (c .before) .pre .0) (start (c .before) .pre .1 .0) (c .before .loop .inv .0) (omega arith)
 
 pub fill-spec : {M : Type 1} → statement M
 fill-spec =

@@ -10,7 +10,7 @@ use Rattle.model.specs.Levels.{clamp, clamped, topped}
 use Rattle.probe.specs.declared.rows.Row.{Row}
 use Rattle.probe.specs.declared.pins.Reach.{Reach}
 use Rattle.probe.specs.Inner.Rows.{rowAt}
-use Rattle.probe.specs.Inner.Tables.{Sound, Sums, Table, fromMean, square}
+use Rattle.probe.specs.Inner.Tables.{SoundWithTotal, Sums, Breakpoints, fromMean, square}
 use Rattle.probe.specs.Laws.Tables.{Small, small-mean, small-square}
 use Rattle.probe.specs.Inner.Pins.{Pin, Reached}
 use Rattle.probe.specs.Inner.Probes.{pinnedTotal, Found, Divided}
@@ -36,10 +36,10 @@ module _ (s : tie.Start) where
   abbrev left : ℕ
   left = s .args .total - pinnedTotal row (s .args .low) (s .args .high) (s .args .v)
 
-  sound : Sound lows highs (s .args .total)
+  sound : SoundWithTotal lows highs (s .args .total)
   sound = s .pre .0
 
-  held : Table lows highs (s .args .total) (s .args .table .now)
+  held : Breakpoints lows highs (s .args .total) (s .args .table .now)
   held = s .pre .1 .0
 
   asked : Asked lows highs (s .args .low) (s .args .high) (s .args .v)

@@ -4,7 +4,7 @@ use native.Mathlib.Omega.{arith}
 use Prim.Native.Nat.{ℕ, suc, _+_, _*_}
 use mathlib.Core.Path.{_≡_}
 use lib.ListN.{length-set}
-use Rattle.probe.specs.Laws.Rows.{written}
+use Rattle.probe.specs.Laws.Rows.{row-written}
 use Rattle.probe.proofs.rows.write_row.Statement.{statement}
 use Rattle.probe.proofs.rows.write_row.Tie as tie
 
@@ -73,7 +73,7 @@ returns c =
     let three : at + 3 ≡ suc (suc (suc at)) = omega arith in
     let four : at + 4 ≡ suc (suc (suc (suc at))) = omega arith in
     let five : at + 5 ≡ suc (suc (suc (suc (suc at)))) = omega arith in
-    rw (one, two, three, four, five) (written (c .args .k) (c .args .row) (c .args .table .now) (c .pre))
+    rw (one, two, three, four, five) (row-written (c .args .k) (c .args .row) (c .args .table .now) (c .pre))
 
 pub write-row-spec : {M : Type 1} → statement M
 write-row-spec =

@@ -5,13 +5,13 @@ use native.Mathlib.Omega.{arith}
 use Prim.Native.Nat.{_≤_}
 use lib.ListN.{length}
 use lib.Seq.{length-take-le}
-use Rattle.group.specs.Sound.{greatestCount}
+use Rattle.model.specs.Shares.{mostUnits}
 use Rattle.works.specs.Laws.Members.{gather-length}
 use Rattle.report.proofs.group_lines.level_members.Statement.{statement}
 use Rattle.report.proofs.group_lines.level_members.Tie as tie
 
 -- at most 256 members
-few : (start : tie.Start) → length (start .args .members .now) ≤ greatestCount
+few : (start : tie.Start) → length (start .args .members .now) ≤ mostUnits
 few start = omega (arith, gather-length (start .args .lows .now) (start .args .members .now), start .pre .1 .0 .few)
 
 -- where the lists for their ranges are made, from where it starts

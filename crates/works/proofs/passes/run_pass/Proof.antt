@@ -7,16 +7,16 @@ use Prim.Native.Nat.{ℕ, _-_}
 use Rattle.groups.specs.Inner.Flat.{storedAt}
 use Rattle.groups.specs.Laws.Walk.{walk-whole}
 use Rattle.groups.specs.declared.Stored.{Stored}
-use Rattle.works.specs.Inner.Asked.{Workspace}
+use Rattle.works.specs.Inner.Asked.{MemberRoom}
 use Rattle.works.specs.Tables.{Table, tableOf}
 use Rattle.works.specs.Laws.Lengths.{SameLengths, lengths-kept, lengths-again}
-use Rattle.works.specs.Laws.Running.{Passing, passing-start, passing-end, next, next-turning, next-stops, next-passes}
+use Rattle.works.specs.Laws.Running.{PassUnderWay, passing-start, passing-end, next, next-turning, next-stops, next-passes}
 use Rattle.works.proofs.passes.run_pass.Statement.{statement}
 use Rattle.works.proofs.passes.run_pass.Tie as tie
 
 abbrev Inv-loop : tie.InvT-loop
 Inv-loop flat groups lows₀ highs₀ member-lows₀ member-highs₀ at₀ place₀ lows highs member-lows member-highs at place =
-    Passing flat groups (tableOf lows₀ highs₀) (tableOf lows highs) at place
+    PassUnderWay flat groups (tableOf lows₀ highs₀) (tableOf lows highs) at place
     × SameLengths lows₀ highs₀ member-lows₀ member-highs₀ lows highs member-lows member-highs
 
 abbrev μ-loop : tie.MeasureT-loop
@@ -41,7 +41,7 @@ module _ (c : tie.In-loop Inv-loop μ-loop) where
   table = tableOf (c .before .loop .lows) (c .before .loop .highs)
 
   -- the working lists have room
-  space : Workspace (c .before .loop .member-lows) (c .before .loop .member-highs)
+  space : MemberRoom (c .before .loop .member-lows) (c .before .loop .member-highs)
   space =
       let opens = start .pre .1 in
       let kept = c .before .loop .inv .1 in
@@ -64,7 +64,7 @@ module _ (c : tie.After-group-at Inv-loop μ-loop) where
   read : stored ≡ storedAt (flat turn) (turn .before .loop .at)
   read = c .group-at .ensures
 
-  passing : Passing (flat turn) (groups turn) (opening turn) (table turn) (turn .before .loop .at) (turn .before .loop .place)
+  passing : PassUnderWay (flat turn) (groups turn) (opening turn) (table turn) (turn .before .loop .at) (turn .before .loop .place)
   passing = turn .before .loop .inv .0
 
 take-turn-requires : tie.Need-take-turn-requires Inv-loop μ-loop

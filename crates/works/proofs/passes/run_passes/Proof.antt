@@ -6,7 +6,7 @@ use mathlib.Core.Path.{_≡_, sym, _∙_}
 use native.Mathlib.Omega.{arith}
 use Prim.Native.Nat.{ℕ}
 use Rattle.groups.specs.Inner.Flat.{groupsIn}
-use Rattle.works.specs.Inner.Asked.{Workspace}
+use Rattle.works.specs.Inner.Asked.{MemberRoom}
 use Rattle.works.specs.Settling as settling
 use Rattle.works.specs.Tables.{Table, tableOf, width}
 use Rattle.works.specs.Laws.Answers.{settled-answer, refused-answer}
@@ -45,7 +45,7 @@ module _ (c : tie.At-loop Inv-loop μ-loop) where
   unsettled = c .loop .inv .0
 
   -- the working lists have room
-  space : Workspace (c .loop .member-lows) (c .loop .member-highs)
+  space : MemberRoom (c .loop .member-lows) (c .loop .member-highs)
   space =
       let opens = start .pre .1 in
       let kept = c .loop .inv .1 in
@@ -103,7 +103,7 @@ module _ (c : tie.After-enum-told Inv-loop μ-loop) where
   abbrev end : tie.After-run-pass Inv-loop μ-loop
   end = c .before .before .before .before .before .before .before .before .before .before
 
-  passed : settling.pass (groupsIn (groups (over end)) (flat (over end))) (table (over end)) ≡ settling.Passed.passed (left end)
+  passed : settling.pass (groupsIn (groups (over end)) (flat (over end))) (table (over end)) ≡ settling.AfterPass.passed (left end)
   passed = pass-through (left end) (end .run-pass .ensures) (c .enum-told .given .1)
 
 width-of-requires-2 : tie.Need-width-of-requires-2 Inv-loop μ-loop

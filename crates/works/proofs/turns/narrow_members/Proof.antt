@@ -2,7 +2,7 @@
 use borrow.Author.Needs.{needs}
 use native.Mathlib.Omega.{arith}
 use Rattle.model.specs.Groups.{Group}
-use Rattle.works.specs.Inner.Asked.{groupOf}
+use Rattle.works.specs.Inner.Asked.{groupWith}
 use Rattle.works.specs.Tables.{Table, tableOf}
 use Rattle.works.specs.Laws.Turning.{members-named, highs-named, gathered-sound, turn-taken}
 use Rattle.works.proofs.turns.narrow_members.Statement.{statement}
@@ -29,7 +29,7 @@ module _ (c : tie.After-narrow-core-arg2) where
   table = tableOf (start .args .lows .now) (start .args .highs .now)
 
   abbrev group : Group
-  group = groupOf (start .args .question) (start .args .members .now)
+  group = groupWith (start .args .question) (start .args .members .now)
 
 narrow-core-requires : tie.Need-narrow-core-requires
 narrow-core-requires c κs = gathered-sound (start c .pre .0) (lows-gathered c .gather .ensures) (highs-gathered c .gather2 .ensures)

@@ -6,12 +6,12 @@ use native.Mathlib.Omega.{arith}
 use Prim.Native.Nat.{ℕ, _+_, _-_, _≤_}
 use lib.ListN.{take, drop}
 use lib.Seq.{length-take-le}
-use Rattle.group.specs.Sound.{greatestCount}
+use Rattle.model.specs.Shares.{mostUnits}
 use Rattle.groups.specs.Inner.Flat.{groupIn}
 use Rattle.groups.specs.Laws.Reading.{size-stored}
 use Rattle.groups.specs.declared.Stored.{Stored}
 use Rattle.model.specs.declared.Question.{Question}
-use Rattle.works.specs.Inner.Asked.{groupOf, Turning}
+use Rattle.works.specs.Inner.Asked.{groupWith, Turning}
 use Rattle.groups.specs.Memberships.{size}
 use Rattle.works.specs.Laws.Parts.{part}
 use Rattle.works.specs.Laws.Turning.{count-few, room}
@@ -49,7 +49,7 @@ module _ (c : tie.After-narrow-members-arg3) where
   counted = size-stored flat group (start .pre .1 .0)
 
   -- at most 256
-  few : group .count ≤ greatestCount
+  few : group .count ≤ mostUnits
   few = omega (arith, counted, count-few (start .pre .0))
 
   -- what is asked of them
@@ -57,8 +57,8 @@ module _ (c : tie.After-narrow-members-arg3) where
   question = record { total = group .total; limits = group .limits }
 
   -- it is the group passed on
-  same-group : groupOf question (take (group .from + group .count - group .from) (drop (group .from) flat)) ≡ groupIn flat group
-  same-group = ap (groupOf question) (part (group .from) (group .count) flat)
+  same-group : groupWith question (take (group .from + group .count - group .from) (drop (group .from) flat)) ≡ groupIn flat group
+  same-group = ap (groupWith question) (part (group .from) (group .count) flat)
 
 slice-relend-prefix-narrow-members : tie.Need-slice-relend-prefix-narrow-members
 slice-relend-prefix-narrow-members c = omega (arith, few c, start c .pre .1 .1)

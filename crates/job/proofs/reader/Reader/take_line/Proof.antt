@@ -46,11 +46,12 @@ use Rattle.text.specs.declared.Spot.{Spot}
 use Rattle.text.proofs.Spot as S
 use Rattle.text.proofs.Spot.Laws as S′
 use Rattle.groups.specs.Inner.Flat.{mostFlat}
-use Rattle.job.specs.Job.{mostBytes, mostUnits}
+use Rattle.job.specs.Job.{mostBytes}
 use Rattle.job.specs.Inner.Steps.{Bounded, LineTaken}
 use Rattle.job.specs.declared.steps.Progress.{Progress}
 use Rattle.job.specs.declared.steps.Taken.{Taken}
 use Rattle.job.specs.declared.reader.Reader.{Reader}
+use Rattle.model.specs.Shares.{mostUnits}
 use Rattle.job.proofs.Closing.{proved}
 use Rattle.job.proofs.Releasing.{releases}
 use Rattle.job.proofs.steps.Progress as P

@@ -44,7 +44,7 @@ use Rattle.text.proofs.Spot.Laws as S′
 use Rattle.model.proofs.Refusal as F
 use Rattle.model.proofs.Refusal.Laws as F′
 use Rattle.groups.specs.Inner.Flat.{mostFlat}
-use Rattle.job.specs.Job.{mostBytes, mostUnits}
+use Rattle.job.specs.Job.{mostBytes}
 use Rattle.job.specs.Inner.Steps.{Bounded, LineTaken}
 use Rattle.job.specs.Inner.Reading.{Scanned, countsOf}
 use Rattle.job.specs.Laws.Scanning.{Moment, on-line, scanned-counts, scanned-stop}
@@ -52,6 +52,7 @@ use Rattle.job.specs.declared.steps.Progress.{Progress}
 use Rattle.job.specs.declared.steps.Taken.{Taken}
 use Rattle.job.specs.declared.steps.Taken.the-variants as taken
 use Rattle.job.specs.declared.Reading.{Reading}
+use Rattle.model.specs.Shares.{mostUnits}
 use Rattle.job.specs.declared.Reading.the-variants as reading
 use Rattle.job.proofs.Releasing.{releases}
 use Rattle.job.proofs.reader.scan_lines.Proof.Calls.{Borrowed, Holding, Text, sliceOf, sliceIn, machine, End, Line, Moved, Counted, asks-end, takes-line, moves, counts}
