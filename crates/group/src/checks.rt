@@ -1,11 +1,11 @@
 // The checks on the lists of one group, in the order of the specification.
 use crate::Check;
-use crate::GREATEST_COUNT;
 use model::Checked;
 use model::GREATEST_DEVIATION;
 use model::GREATEST_SPREAD;
 use model::GREATEST_TOTAL;
 use model::Limits;
+use model::MOST_UNITS;
 use model::Refusal;
 use model::Share;
 ghost use mathlib.Core.Path.{_≡_};
@@ -67,7 +67,7 @@ fn is_sized(count: usize, other: usize, room: usize) -> bool
     if count != other {
         return false;
     }
-    if GREATEST_COUNT < count {
+    if MOST_UNITS < count {
         return false;
     }
     count <= room

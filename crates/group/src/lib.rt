@@ -30,9 +30,6 @@ pub mod plans;
 pub mod ranges;
 pub mod shares;
 
-// A group has at most so many members.
-pub const GREATEST_COUNT: usize = 256;
-
 // What the checks on a group's lists answer.
 pub enum Check {
     Passed,

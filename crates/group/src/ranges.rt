@@ -2,6 +2,7 @@
 use crate::ends::farthest_taken;
 use crate::plans::has_shares;
 use crate::shares::extra;
+use model::MOST_UNITS;
 use model::Question;
 use model::Turn;
 use model::levels::clamp;
@@ -129,8 +130,8 @@ pub fn narrow_core(lows: &mut [u64], highs: &mut [u64], question: Question) -> T
     if lows.len() <= 16 {
         return narrow_few(lows, highs, question);
     }
-    let mut starts = [0u64; 256];
-    let mut stops = [0u64; 256];
+    let mut starts = [0u64; MOST_UNITS];
+    let mut stops = [0u64; MOST_UNITS];
     let mut table = [0u64; 3078];
     narrow_within(lows, highs, question, &mut starts, &mut stops, &mut table)
 }

@@ -8,6 +8,7 @@ ghost use Rattle.model.specs.Shares.{mostUnits};
 ghost use Rattle.job.specs.Inner.Reading.{GroupsScanned, Scanned, FilledBy};
 ghost use Rattle.job.specs.Reading.{ReadInto};
 use groups::MOST_FLAT;
+use model::MOST_UNITS;
 use model::Refusal;
 use model::lists::copy;
 use model::lists::room;
@@ -107,8 +108,8 @@ fn read_by(
 pub fn read(text: &[u8], lows: &mut [u64], highs: &mut [u64]) -> Reading
     ensures { λ r. ⌜ ReadInto (now (text .entry)) (now (lows .entry)) (now (highs .entry)) (now (lows .exit)) (now (highs .exit)) r ⌝ }
 {
-    let mut least = [0u64; 256];
-    let mut greatest = [0u64; 256];
+    let mut least = [0u64; MOST_UNITS];
+    let mut greatest = [0u64; MOST_UNITS];
     let mut flat = [0u64; MOST_FLAT];
     read_by(text, lows, highs, &mut least, &mut greatest, &mut flat)
 }

@@ -23,6 +23,7 @@ use model::Checked;
 use model::GREATEST_DEVIATION;
 use model::GREATEST_SPREAD;
 use model::GREATEST_TOTAL;
+use model::MOST_UNITS;
 use model::Refusal;
 use model::Share;
 use text::Spot;
@@ -39,8 +40,6 @@ pub enum Taken {
     Line(Progress, Spot),
     Refused(Refusal),
 }
-
-pub const MOST_UNITS: usize = 256;
 
 pub const MOST_GROUPS: usize = 64;
 
@@ -112,10 +111,10 @@ fn fresh_by(members: &[u64], marks: &mut [u64]) -> bool
 }
 
 fn are_distinct(members: &[u64]) -> bool
-    requires { ⌜ AllBelow 256 (now members) ⌝ }
+    requires { ⌜ AllBelow mostUnits (now members) ⌝ }
     ensures { λ r. ⌜ r ≡ distinct (now (members .entry)) ⌝ }
 {
-    let mut marks = [0u64; 256];
+    let mut marks = [0u64; MOST_UNITS];
     fresh_by(members, &mut marks)
 }
 

@@ -6,7 +6,7 @@ use crate::table::square;
 use model::Deviation;
 ghost use mathlib.Core.Path.{_≡_};
 ghost use Prim.Native.Nat.{suc, _+_, _*_, _≤_};
-ghost use Rattle.model.specs.Shares.{greatestTotal};
+ghost use Rattle.model.specs.Shares.{greatestTotal, mostUnits};
 ghost use Rattle.probe.specs.Inner.Tables.{fromMean, square};
 ghost use Rattle.probe.specs.Inner.Figures.{Parts, Moves, Summable};
 
@@ -36,7 +36,7 @@ pub fn pinned_deviation(
     v: u64,
     reach: Reach,
 ) -> Deviation
-    requires { ⌜ count ≤ 256 ⌝ }
+    requires { ⌜ count ≤ mostUnits ⌝ }
     requires { ⌜ total ≤ greatestTotal ⌝ }
     requires { ⌜ Summable (fromMean count total) (row .deviation) (row .mark) own v reach ⌝ }
     ensures { λ r. ⌜ Moves (fromMean count total) (row .deviation) (row .mark) own v reach (r .0) ⌝ }

@@ -3,7 +3,7 @@ use crate::rows::Row;
 use model::numbers::apart;
 ghost use mathlib.Core.Path.{_≡_};
 ghost use Prim.Native.Nat.{suc, _+_, _*_, _≤_, _<_};
-ghost use Rattle.model.specs.Shares.{greatestShare};
+ghost use Rattle.model.specs.Shares.{greatestShare, mostUnits};
 ghost use lib.ListN.{length};
 ghost use Rattle.probe.specs.Inner.Walks.{First};
 ghost use Rattle.probe.specs.Inner.Steps.{Risen, RowReached, NextRow, Begun};
@@ -11,7 +11,7 @@ ghost use Rattle.probe.specs.Inner.Tables.{SoundWithTotal, Sums, SpanTo,
 
 // A share's part of the deviation.
 pub fn from_mean(count: u64, total: u64, x: u64) -> u64
-    requires { ⌜ count ≤ 256 ⌝ }
+    requires { ⌜ count ≤ mostUnits ⌝ }
     requires { ⌜ x ≤ suc greatestShare ⌝ }
     ensures { λ r. ⌜ r ≡ fromMean count total x ⌝ }
 {

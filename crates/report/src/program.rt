@@ -4,6 +4,7 @@ use crate::calls::report;
 use crate::lines::refusal_line;
 use job::Reading;
 use job::read;
+use model::MOST_UNITS;
 ghost use mathlib.Core.List.{_++_};
 ghost use mathlib.Core.Path.{_≡_};
 ghost use Prim.Native.Nat.{_≤_};
@@ -65,8 +66,8 @@ pub fn print_job(text: &[u8], buffer: &mut [u8; 65536]) -> usize
     ensures { λ r. ⌜ r ≡ length (printedOf (now (text .entry))) ⌝ }
     ensures { λ r. ⌜ now (buffer .exit) ≡ printedOf (now (text .entry)) ++ drop r (now (buffer .entry)) ⌝ }
 {
-    let mut lows = [0u64; 256];
-    let mut highs = [0u64; 256];
+    let mut lows = [0u64; MOST_UNITS];
+    let mut highs = [0u64; MOST_UNITS];
     let mut scratch = [0u64; 2048];
     print_by(text, &mut lows, &mut highs, &mut scratch, buffer)
 }

@@ -1,11 +1,13 @@
 // Reading a job text into a table of ranges, settling and reporting over one: thin functions above those on two lists of numbers.
 // A function that holds a table is proved by a walk of its MIR, by hand.
 use job::Reading;
+use model::MOST_UNITS;
 use report::Reporting;
 use works::Settling;
 ghost use mathlib.Core.Path.{_≡_};
 ghost use Prim.Native.Nat.{_≤_, min};
 ghost use lib.ListN.{length};
+ghost use Rattle.model.specs.Shares.{mostUnits};
 ghost use Rattle.job.specs.Reading.{ReadInto};
 ghost use Rattle.report.specs.Calls.{reported, reportText};
 ghost use Rattle.works.specs.Calls.{settlement, settleText};
@@ -21,27 +23,27 @@ pub struct Range {
 
 // The lows and the highs of a table's first entries, and how many they are.
 struct Bounds {
-    lows: [u64; 256],
-    highs: [u64; 256],
+    lows: [u64; MOST_UNITS],
+    highs: [u64; MOST_UNITS],
     count: usize,
 }
 
 // A job has at most 256 units, so no more entries are looked at.
 fn capped(entries: usize) -> usize
-    ensures { λ r. ⌜ r ≡ min entries 256 ⌝ }
+    ensures { λ r. ⌜ r ≡ min entries mostUnits ⌝ }
 {
-    if entries < 256 {
+    if entries < MOST_UNITS {
         return entries;
     }
-    256
+    MOST_UNITS
 }
 
 // The bounds of a table.
 fn take_bounds(table: &[Range]) -> Bounds
     ensures { λ r. ⌜ r ≡ boundsOf (now (table .entry)) ⌝ }
 {
-    let mut lows = [0u64; 256];
-    let mut highs = [0u64; 256];
+    let mut lows = [0u64; MOST_UNITS];
+    let mut highs = [0u64; MOST_UNITS];
     let count = capped(table.len());
     let mut i: usize = 0;
     while i < count {
@@ -55,7 +57,7 @@ fn take_bounds(table: &[Range]) -> Bounds
 
 // The table with these bounds; entries past the count keep their values.
 fn put_bounds(table: &mut [Range], bounds: Bounds)
-    requires { ⌜ bounds .count ≤ min (length (now table)) 256 ⌝ }
+    requires { ⌜ bounds .count ≤ min (length (now table)) mostUnits ⌝ }
     ensures { λ _. ⌜ now (table .exit) ≡ over (bounds .count) (ranges (bounds .lows) (bounds .highs)) (now (table .entry)) ⌝ }
 {
     let lows = bounds.lows;
@@ -79,7 +81,7 @@ struct SettledBounds {
 
 // Settles a job text over bounds.
 fn settle_bounds(text: &[u8], bounds: Bounds, scratch: &mut [u64]) -> SettledBounds
-    requires { ⌜ bounds .count ≤ 256 ⌝ }
+    requires { ⌜ bounds .count ≤ mostUnits ⌝ }
     ensures { λ r. ⌜ r ≡ afterSettling (now (text .entry)) bounds (length (now (scratch .entry))) ⌝ }
 {
     let mut lows = bounds.lows;
@@ -116,7 +118,7 @@ fn report_bounds(
     scratch: &mut [u64],
     buffer: &mut [u8],
 ) -> ReportedBounds
-    requires { ⌜ bounds .count ≤ 256 ⌝ }
+    requires { ⌜ bounds .count ≤ mostUnits ⌝ }
     ensures { λ r. ⌜ (r ≡ afterReporting (now (text .entry)) bounds (length (now (scratch .entry))) (now (buffer .entry))) × (now (buffer .exit) ≡ bufferAfter (now (text .entry)) bounds (length (now (scratch .entry))) (now (buffer .entry))) ⌝ }
 {
     let mut lows = bounds.lows;
@@ -154,7 +156,7 @@ struct ReadBounds {
 
 // Reads a job text into bounds.
 fn read_bounds(text: &[u8], bounds: Bounds) -> ReadBounds
-    requires { ⌜ bounds .count ≤ 256 ⌝ }
+    requires { ⌜ bounds .count ≤ mostUnits ⌝ }
     ensures { λ r. ⌜ r ≡ afterReading (now (text .entry)) bounds ⌝ }
 {
     let mut lows = bounds.lows;

@@ -1,7 +1,7 @@
 -- A sum of the pinned group at the level reached, from a row's sum. Assumes nothing.
 use Prim.Native.Nat.{ℕ, suc, _+_, _*_, _≤_}
 use mathlib.Core.Path.{_≡_}
-use Rattle.model.specs.Shares.{greatestShare}
+use Rattle.model.specs.Shares.{greatestShare, mostUnits}
 use Rattle.probe.specs.declared.pins.Reach.{Reach}
 use Rattle.probe.specs.Inner.Tables.{greatestPart}
 
@@ -13,21 +13,21 @@ Moves f stored mark own v reach r =
 
 -- it can be computed
 pub record Summable (f : ℕ → ℕ) (stored mark own v : ℕ) (reach : Reach) : Type 0 where
-  pub storedSmall : stored ≤ 256 * greatestPart
+  pub storedSmall : stored ≤ mostUnits * greatestPart
   pub markShare : mark ≤ greatestShare
   pub ownShare : own ≤ greatestShare
   pub valueShare : v ≤ greatestShare
   pub levelShare : reach .level ≤ greatestShare
-  pub growingFew : reach .growing ≤ 256
-  pub overFew : reach .over ≤ 256
+  pub growingFew : reach .growing ≤ mostUnits
+  pub overFew : reach .over ≤ mostUnits
   pub fits : f own + (reach .growing * f mark + reach .over * f (reach .level))
       ≤ stored + (f v + (reach .growing * f (reach .level) + reach .over * f (suc (reach .level))))
 
 -- the parts of such a sum
 pub record Parts (stored own value : ℕ) (reach : Reach) (from to next : ℕ) : Type 0 where
-  pub storedSmall : stored ≤ 256 * greatestPart
+  pub storedSmall : stored ≤ mostUnits * greatestPart
   pub ownSmall : own ≤ greatestPart
   pub valueSmall : value ≤ greatestPart
-  pub movedSmall : (reach .growing * from ≤ 256 * greatestPart) × (reach .growing * to ≤ 256 * greatestPart)
-  pub overSmall : (reach .over * to ≤ 256 * greatestPart) × (reach .over * next ≤ 256 * greatestPart)
+  pub movedSmall : (reach .growing * from ≤ mostUnits * greatestPart) × (reach .growing * to ≤ mostUnits * greatestPart)
+  pub overSmall : (reach .over * to ≤ mostUnits * greatestPart) × (reach .over * next ≤ mostUnits * greatestPart)
   pub fits : own + (reach .growing * from + reach .over * to) ≤ stored + (value + (reach .growing * to + reach .over * next))

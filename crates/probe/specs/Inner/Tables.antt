@@ -3,7 +3,7 @@ use Prim.Native.Nat.{ℕ, suc, _+_, _*_, _≤_, _<_}
 use mathlib.Core.List.{List}
 use mathlib.Core.Path.{_≡_}
 use lib.ListN.{length}
-use Rattle.model.specs.Shares.{Ranges, greatestShare, greatestTotal, sumOf}
+use Rattle.model.specs.Shares.{Ranges, greatestShare, greatestTotal, sumOf, mostUnits}
 use Rattle.model.specs.Figures.{apart}
 use Rattle.model.specs.Levels.{clamped}
 use Rattle.probe.specs.declared.rows.Row.{Row}
@@ -14,7 +14,7 @@ use Rattle.probe.specs.Inner.Spans.{Span}
 pub record SoundWithTotal (lows highs : List ℕ) (total : ℕ) : Type 0 where
   pub ranges : Ranges lows highs
   pub paired : length highs ≡ length lows
-  pub few : length lows ≤ 256
+  pub few : length lows ≤ mostUnits
   pub small : total ≤ greatestTotal
 
 -- a share's part of T, of the deviation and of the sum of squares
@@ -55,9 +55,9 @@ greatestPart = 2_000_000_000_000
 
 -- numbers whose sum may be moved: a parts go from one value to another, and b back
 pub record Movable (stored a b from to : ℕ) : Type 0 where
-  pub storedSmall : stored ≤ 256 * greatestPart
-  pub upSmall : a ≤ 256
-  pub downSmall : b ≤ 256
+  pub storedSmall : stored ≤ mostUnits * greatestPart
+  pub upSmall : a ≤ mostUnits
+  pub downSmall : b ≤ mostUnits
   pub fromSmall : from ≤ greatestPart
   pub toSmall : to ≤ greatestPart
   pub fits : a * from + b * to ≤ stored + (a * to + b * from)

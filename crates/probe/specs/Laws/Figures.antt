@@ -4,7 +4,7 @@ use mathlib.Core.List.{List}
 use mathlib.Core.Path.{_≡_}
 use native.Mathlib.Nat.{mul-le-mul}
 use native.Mathlib.Omega.{arith}
-use Rattle.model.specs.Shares.{greatestShare, sumOf}
+use Rattle.model.specs.Shares.{greatestShare, sumOf, mostUnits}
 use Rattle.model.specs.Levels.{clamp, clamped, topped}
 use Rattle.probe.specs.declared.pins.Reach.{Reach}
 use Rattle.probe.specs.Inner.Tables.{SoundWithTotal}
@@ -23,7 +23,7 @@ module _ {lows highs lows′ highs′ : List ℕ} {total low high v mark : ℕ} 
   pub moves-sum : {r : ℕ} → Moves f stored mark (clamp low high mark) v reach r → r ≡ sumOf f (topped lows′ highs′ (reach .level) (reach .over))
   moves-sum is = omega (arith, moves)
 
-  pub summable : SoundWithTotal lows highs total → Small f → mark ≤ greatestShare → reach .growing ≤ 256 → reach .over ≤ 256
+  pub summable : SoundWithTotal lows highs total → Small f → mark ≤ greatestShare → reach .growing ≤ mostUnits → reach .over ≤ mostUnits
       → Summable f stored mark (clamp low high mark) v reach
   summable sound small share few few′ = record {
     storedSmall = omega (arith, clamped-small (sound .ranges) small mark, sound .few);

@@ -5,6 +5,7 @@ use mathlib.Core.Path.{_≡_}
 use native.Mathlib.Decide.{decLt, ℕ-discrete}
 use native.Mathlib.Omega.{arith}
 use lib.ListN.{length}
+use Rattle.model.specs.Shares.{mostUnits}
 use Rattle.model.specs.Levels.{clamp, totalAt, growth}
 use Rattle.model.specs.Laws.Lists.{sum-sumOf}
 use Rattle.probe.specs.declared.rows.Row.{Row}
@@ -97,8 +98,8 @@ module _ {lows highs table lows′ highs′ : List ℕ} {total low high v : ℕ}
         ]
 
 -- those that grow and the copies left over are at most as many as the lows passed
-pub divided-few : {row : Row} {low high left : ℕ} {reach : Reach} → Divided row low high left reach → row .lows ≤ 256
-    → (reach .growing ≤ 256) × (reach .over ≤ 256)
+pub divided-few : {row : Row} {low high left : ℕ} {reach : Reach} → Divided row low high left reach → row .lows ≤ mostUnits
+    → (reach .growing ≤ mostUnits) × (reach .over ≤ mostUnits)
 divided-few {left = left} divided few =
     elim (decLt 0 left) [
       | yes some ↦ let (steps, level, moving, divides, under) = divided .some some in (omega arith, omega arith)

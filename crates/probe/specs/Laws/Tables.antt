@@ -5,7 +5,7 @@ use mathlib.Core.Path.{_≡_}
 use native.Mathlib.Nat.{mul-le-mul}
 use native.Mathlib.Omega.{arith}
 use lib.ListN.{length}
-use Rattle.model.specs.Shares.{Ranges, greatestShare, greatestTotal, sumOf}
+use Rattle.model.specs.Shares.{Ranges, greatestShare, greatestTotal, sumOf, mostUnits}
 use Rattle.model.specs.Levels.{clamp, clamped}
 use Rattle.model.specs.Laws.Level.{clamp-at-most}
 use Rattle.probe.specs.Inner.Spans.{Span}
@@ -17,7 +17,7 @@ Small f = (x : ℕ) → x ≤ suc greatestShare → f x ≤ greatestPart
 pub small-itself : Small itself
 small-itself x share = omega arith
 
-pub small-mean : {n total : ℕ} → n ≤ 256 → total ≤ greatestTotal → Small (fromMean n total)
+pub small-mean : {n total : ℕ} → n ≤ mostUnits → total ≤ greatestTotal → Small (fromMean n total)
 small-mean few small x share = omega (arith, mul-le-mul few share)
 
 pub small-square : Small square
@@ -33,7 +33,7 @@ clamped-small (Ranges.also {l} {h} p q r) small w =
 
 -- its products are small
 pub products-small : {stored a b from to : ℕ} → Movable stored a b from to
-    → (a * from ≤ 256 * greatestPart) × (a * to ≤ 256 * greatestPart) × (b * from ≤ 256 * greatestPart) × (b * to ≤ 256 * greatestPart)
+    → (a * from ≤ mostUnits * greatestPart) × (a * to ≤ mostUnits * greatestPart) × (b * from ≤ mostUnits * greatestPart) × (b * to ≤ mostUnits * greatestPart)
 products-small m = (
   mul-le-mul (m .upSmall) (m .fromSmall),
   mul-le-mul (m .upSmall) (m .toSmall),

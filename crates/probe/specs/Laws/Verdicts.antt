@@ -8,7 +8,7 @@ use native.Mathlib.Omega.{arith, by-contra}
 use lib.Dec.{leb}
 use lib.ListN.{length}
 use borrow.Author.Tests.{le-leb, lt-leb, le-ltb}
-use Rattle.model.specs.Shares.{Ranges, Within, greatestShare, sum, sumOf}
+use Rattle.model.specs.Shares.{Ranges, Within, greatestShare, sum, sumOf, mostUnits}
 use Rattle.model.specs.Figures.{met, figuresOf, deviation, spread}
 use Rattle.model.specs.Levels.{clamped, totalAt, growth, topped, levelled}
 use Rattle.model.specs.Plans.{hasPlan}
@@ -58,9 +58,9 @@ module _ {lows highs lows′ highs′ : List ℕ} {total low high v : ℕ} (soun
         rw (is-squares, ← pin .count, within-length (topped-within (pin .ranges) w r) .0, ← reached-adds (pin .ranges) reached)
         (cauchy-schwarz (topped lows′ highs′ w r))
 
-    pub squares-small : length lows * q ≤ 256 * (256 * greatestPart)
+    pub squares-small : length lows * q ≤ mostUnits * (mostUnits * greatestPart)
     squares-small =
-        let few : q ≤ 256 * greatestPart = omega (arith, topped-small (pin .ranges) small-square w r, pin .count, sound .few) in
+        let few : q ≤ mostUnits * greatestPart = omega (arith, topped-small (pin .ranges) small-square w r, pin .count, sound .few) in
         mul-le-mul (sound .few) few
 
   module _ {table : List ℕ} (held : Breakpoints lows highs total table) where

@@ -2,6 +2,7 @@
 use Prim.Native.Nat.{ℕ, zero, suc, min}
 use mathlib.Core.List.{List, [], _∷_, _++_}
 use lib.ListN.{length, take, drop, replicate}
+use Rattle.model.specs.Shares.{mostUnits}
 use Rattle.table.specs.declared.Range.{Range}
 use Rattle.table.specs.declared.Bounds.{Bounds}
 use Rattle.table.specs.declared.SettledBounds.{SettledBounds}
@@ -28,14 +29,14 @@ over (suc n) (x ∷ xs) (y ∷ ys) = x ∷ over n xs ys
 
 -- 256 numbers 0
 unfoldable pub zeros : List ℕ
-zeros = replicate 256 0
+zeros = replicate mostUnits 0
 
 -- the bounds of a table's first 256 entries
 abbrev pub boundsOf : List Range → Bounds
 boundsOf t = record {
-  lows = over (min (length t) 256) (lowsIn t) zeros;
-  highs = over (min (length t) 256) (highsIn t) zeros;
-  count = min (length t) 256;
+  lows = over (min (length t) mostUnits) (lowsIn t) zeros;
+  highs = over (min (length t) mostUnits) (highsIn t) zeros;
+  count = min (length t) mostUnits;
 }
 
 -- what settling a text over bounds hands back, with a scratch of so many numbers

@@ -16,7 +16,7 @@ use Rattle.job.specs.Job.{Job, JobOrRefusal, accepted, refused, mostBytes, read
 use Rattle.job.specs.Reading.{readTable, fitTable, lowsAfter, highsAfter, ReadInto, readingOf}
 use Rattle.job.specs.Laws.Sound.{accepted-sound}
 use Rattle.model.specs.Groups.{Group}
-use Rattle.model.specs.Shares.{pick}
+use Rattle.model.specs.Shares.{pick, mostUnits}
 use Rattle.report.specs.Calls.{Reported, reported, jobOf, reportBy, reportSettled, reportText}
 use Rattle.report.specs.declared.Reporting.the-variants as reporting
 use Rattle.works.specs.Answers.{answerOf, tableAfter}
@@ -69,10 +69,10 @@ abbrev FewIn : ℕ → JobOrRefusal → Type 0
 FewIn m (accepted job) = length (job .lows) ≤ m
 FewIn m (refused r) = Unit {0}
 
-few-units : (text : List ℕ) → FewIn 256 (readJob text)
+few-units : (text : List ℕ) → FewIn mostUnits (readJob text)
 few-units text = by-outcome (readJob text) refl
   where
-    by-outcome : (o : JobOrRefusal) → readJob text ≡ o → FewIn 256 o
+    by-outcome : (o : JobOrRefusal) → readJob text ≡ o → FewIn mostUnits o
     by-outcome (accepted job) e = accepted-sound text job e .built .few-units
     by-outcome (refused r) e = tt
 
@@ -175,35 +175,35 @@ putBack c t = over (c .count) (ranges (c .lows) (c .highs)) t
 module _ (text : List ℕ) (t : List Range) where
   -- settling over a table's bounds is settling over its lows and highs
   pub settled-table : (scratch : ℕ) → let r : SettledBounds = afterSettling text (boundsOf t) scratch in
-      length (r .bounds .lows) ≡ 256 → length (r .bounds .highs) ≡ 256
+      length (r .bounds .lows) ≡ mostUnits → length (r .bounds .highs) ≡ mostUnits
       → settlement (r .answer) (lowsIn (putBack (r .bounds) t)) (highsIn (putBack (r .bounds) t)) ≡ settleText text (lowsIn t) (highsIn t) scratch
   settled-table scratch p q =
-      let n : ℕ = min (length t) 256 in
+      let n : ℕ = min (length t) mostUnits in
       let s : Settlement = settleText text (take n (boundsOf t .lows)) (take n (boundsOf t .highs)) scratch in
       let back = put-table t (s .lows) (s .highs) p q in
       (λ i. settlement (s .answer) (back .0 i) (back .1 i))
-      ∙ (λ i. longer 256 (lowsIn t) (highsIn t) (settleText text (bounds-hold (λ r. r .low) t i) (bounds-hold (λ r. r .high) t i) scratch))
-      ∙ text-front 256 (lowsIn t) (highsIn t) text scratch (few-units text)
+      ∙ (λ i. longer mostUnits (lowsIn t) (highsIn t) (settleText text (bounds-hold (λ r. r .low) t i) (bounds-hold (λ r. r .high) t i) scratch))
+      ∙ text-front mostUnits (lowsIn t) (highsIn t) text scratch (few-units text)
 
   -- reporting over a table's bounds is reporting over its lows and highs
   pub reported-table : (scratch : ℕ) (buffer : List ℕ) → let r : ReportedBounds = afterReporting text (boundsOf t) scratch buffer in
-      length (r .bounds .lows) ≡ 256 → length (r .bounds .highs) ≡ 256
+      length (r .bounds .lows) ≡ mostUnits → length (r .bounds .highs) ≡ mostUnits
       → reported (r .answer) (lowsIn (putBack (r .bounds) t)) (highsIn (putBack (r .bounds) t)) (bufferAfter text (boundsOf t) scratch buffer) ≡ reportText text (lowsIn t) (highsIn t) scratch buffer
   reported-table scratch buffer p q =
-      let n : ℕ = min (length t) 256 in
+      let n : ℕ = min (length t) mostUnits in
       let s : Reported = reportText text (take n (boundsOf t .lows)) (take n (boundsOf t .highs)) scratch buffer in
-      let held : s ≡ reportText text (take 256 (lowsIn t)) (take 256 (highsIn t)) scratch buffer =
+      let held : s ≡ reportText text (take mostUnits (lowsIn t)) (take mostUnits (highsIn t)) scratch buffer =
       (λ i. reportText text (bounds-hold (λ r. r .low) t i) (bounds-hold (λ r. r .high) t i) scratch buffer) in
       let back = put-table t (s .lows) (s .highs) p q in
       (λ i. reported (s .answer) (back .0 i) (back .1 i) (s .buffer))
-      ∙ (λ i. wider 256 (lowsIn t) (highsIn t) (held i))
-      ∙ report-front 256 (lowsIn t) (highsIn t) text scratch buffer (few-units text)
+      ∙ (λ i. wider mostUnits (lowsIn t) (highsIn t) (held i))
+      ∙ report-front mostUnits (lowsIn t) (highsIn t) text scratch buffer (few-units text)
       (ap (λ (z : Reported). length (z .lows)) (sym held) ∙ front-length (λ r. r .low) t (s .lows) p ∙ sym (rw (length-take, length-map) (omega arith)))
       (ap (λ (z : Reported). length (z .highs)) (sym held) ∙ front-length (λ r. r .high) t (s .highs) q ∙ sym (rw (length-take, length-map) (omega arith)))
 
   -- reading into a table's bounds is reading into its lows and highs
   pub read-table : let r : ReadBounds = afterReading text (boundsOf t) in
-      length (r .bounds .lows) ≡ 256 → length (r .bounds .highs) ≡ 256
+      length (r .bounds .lows) ≡ mostUnits → length (r .bounds .highs) ≡ mostUnits
       → ReadInto text (lowsIn t) (highsIn t) (lowsIn (putBack (r .bounds) t)) (highsIn (putBack (r .bounds) t)) (r .answer)
   unfolding readTable
   read-table p q =
@@ -211,19 +211,19 @@ module _ (text : List ℕ) (t : List Range) where
       let highs : List ℕ = take (boundsOf t .count) (boundsOf t .highs) in
       let held : JobOrRefusal = readTable text (length lows) (length highs) in
       let whole : JobOrRefusal = readTable text (length (lowsIn t)) (length (highsIn t)) in
-      let few : FewIn 256 whole = fit-few 256 (length (lowsIn t)) (length (highsIn t)) (readJob text) (few-units text) in
+      let few : FewIn mostUnits whole = fit-few mostUnits (length (lowsIn t)) (length (highsIn t)) (readJob text) (few-units text) in
       let found : held ≡ whole =
       (λ i. readTable text (length (bounds-hold (λ r. r .low) t i)) (length (bounds-hold (λ r. r .high) t i)))
-      ∙ fit-front 256 (lowsIn t) (highsIn t) (readJob text) (few-units text) in
+      ∙ fit-front mostUnits (lowsIn t) (highsIn t) (readJob text) (few-units text) in
       let back = put-table t (lowsAfter held lows) (highsAfter held highs) p q in
       record {
         answer = ap readingOf found;
         lows-are =
             back .0
-            ∙ (λ i. lowsAfter (found i) (bounds-hold (λ r. r .low) t i) ++ drop 256 (lowsIn t))
-            ∙ lows-front 256 (lowsIn t) (highsIn t) whole few;
+            ∙ (λ i. lowsAfter (found i) (bounds-hold (λ r. r .low) t i) ++ drop mostUnits (lowsIn t))
+            ∙ lows-front mostUnits (lowsIn t) (highsIn t) whole few;
         highs-are =
             back .1
-            ∙ (λ i. highsAfter (found i) (bounds-hold (λ r. r .high) t i) ++ drop 256 (highsIn t))
-            ∙ highs-front 256 (lowsIn t) (highsIn t) whole few;
+            ∙ (λ i. highsAfter (found i) (bounds-hold (λ r. r .high) t i) ++ drop mostUnits (highsIn t))
+            ∙ highs-front mostUnits (lowsIn t) (highsIn t) whole few;
       }

@@ -5,6 +5,7 @@ use mathlib.Core.List.{List, [], _∷_, _++_, map}
 use native.Mathlib.Nat.{le-of-suc-le-suc, not-suc-le-zero, suc-inj, zero-min, min-zero, suc-min-suc}
 use native.Mathlib.Omega.{arith}
 use lib.ListN.{length, getD, set, take, drop, replicate, length-replicate, length-map, length-append, length-drop}
+use Rattle.model.specs.Shares.{mostUnits}
 use Rattle.table.specs.declared.Range.{Range}
 use Rattle.table.specs.Tables.{lowsIn, highsIn}
 use Rattle.table.specs.Inner.Tables.{over, ranges, zeros, boundsOf}
@@ -37,12 +38,12 @@ over-ranges (suc i) (l ∷ ls) (h ∷ hs) (t ∷ ts) p q =
     ap (λ (zs : List Range). record { low = l; high = h } ∷ zs) (over-ranges i ls hs ts (le-of-suc-le-suc p) (le-of-suc-le-suc q))
 
 -- the zeros are an array of 256 numbers
-pub zeros-are : zeros ≡ replicate 256 0
+pub zeros-are : zeros ≡ replicate mostUnits 0
 unfolding zeros
 zeros-are = refl
 
-pub zeros-length : length zeros ≡ 256
-zeros-length = ap length zeros-are ∙ length-replicate {A = ℕ} 256 0
+pub zeros-length : length zeros ≡ mostUnits
+zeros-length = ap length zeros-are ∙ length-replicate {A = ℕ} mostUnits 0
 
 -- the first n of a list whose first n come from another
 take-over : {A : Type 0} (n : ℕ) (xs ys : List A) → n ≤ length xs → n ≤ length ys → take n (over n xs ys) ≡ take n xs
@@ -58,10 +59,10 @@ take-least (suc m) [] = rw (zero-min (suc m)) refl
 take-least {A} (suc m) (x ∷ xs) = rw (suc-min-suc (length xs) m) (ap (λ (zs : List A). x ∷ zs) (take-least m xs))
 
 -- the numbers that a table's bounds hold of a field are the field's first 256
-pub bounds-hold : (f : Range → ℕ) (t : List Range) → take (min (length t) 256) (over (min (length t) 256) (map f t) zeros) ≡ take 256 (map f t)
+pub bounds-hold : (f : Range → ℕ) (t : List Range) → take (min (length t) mostUnits) (over (min (length t) mostUnits) (map f t) zeros) ≡ take mostUnits (map f t)
 bounds-hold f t =
-    take-over (min (length t) 256) (map f t) zeros (rw (length-map t f) (omega arith)) (rw zeros-length (omega arith))
-    ∙ ap (λ (n : ℕ). take (min n 256) (map f t)) (sym (length-map t f)) ∙ take-least 256 (map f t)
+    take-over (min (length t) mostUnits) (map f t) zeros (rw (length-map t f) (omega arith)) (rw zeros-length (omega arith))
+    ∙ ap (λ (n : ℕ). take (min n mostUnits) (map f t)) (sym (length-map t f)) ∙ take-least mostUnits (map f t)
 
 -- nor does it matter how many more than there are go
 drop-least : {A : Type 0} (m : ℕ) (xs : List A) → drop (min (length xs) m) xs ≡ drop m xs
@@ -84,22 +85,22 @@ over-fields (suc n) (l ∷ ls) (h ∷ hs) ks js (r ∷ t) p q le =
 
 -- lists that fill an array together with what it held past them are as long as the bounds say
 pub front-length : (f : Range → ℕ) (t : List Range) (ls : List ℕ)
-    → length (ls ++ drop (min (length t) 256) (over (min (length t) 256) (map f t) zeros)) ≡ 256 → length ls ≡ min (length t) 256
+    → length (ls ++ drop (min (length t) mostUnits) (over (min (length t) mostUnits) (map f t) zeros)) ≡ mostUnits → length ls ≡ min (length t) mostUnits
 front-length f t ls whole =
-    let n : ℕ = min (length t) 256 in
+    let n : ℕ = min (length t) mostUnits in
     let kept : List ℕ = over n (map f t) zeros in
-    let all : length kept ≡ 256 = over-length n (map f t) zeros ∙ zeros-length in
+    let all : length kept ≡ mostUnits = over-length n (map f t) zeros ∙ zeros-length in
     omega (arith, whole, length-append ls (drop n kept), length-drop n kept, all)
 
 -- a table after bounds whose first numbers are these: its entries past the first 256 keep their values
-pub put-table : (t : List Range) (ls hs : List ℕ) → let n : ℕ = min (length t) 256 in
+pub put-table : (t : List Range) (ls hs : List ℕ) → let n : ℕ = min (length t) mostUnits in
     let lows : List ℕ = ls ++ drop n (boundsOf t .lows) in let highs : List ℕ = hs ++ drop n (boundsOf t .highs) in
-    length lows ≡ 256 → length highs ≡ 256
-    → (lowsIn (over n (ranges lows highs) t) ≡ ls ++ drop 256 (lowsIn t)) × (highsIn (over n (ranges lows highs) t) ≡ hs ++ drop 256 (highsIn t))
+    length lows ≡ mostUnits → length highs ≡ mostUnits
+    → (lowsIn (over n (ranges lows highs) t) ≡ ls ++ drop mostUnits (lowsIn t)) × (highsIn (over n (ranges lows highs) t) ≡ hs ++ drop mostUnits (highsIn t))
 put-table t ls hs p q =
-    let n : ℕ = min (length t) 256 in
+    let n : ℕ = min (length t) mostUnits in
     let both = over-fields n ls hs (drop n (boundsOf t .lows)) (drop n (boundsOf t .highs)) t (front-length (λ r. r .low) t ls p) (front-length (λ r. r .high) t hs q) (omega arith) in
     (both .0 ∙ ap (λ (zs : List ℕ). ls ++ zs) (past (λ r. r .low)), both .1 ∙ ap (λ (zs : List ℕ). hs ++ zs) (past (λ r. r .high)))
   where
-    past : (f : Range → ℕ) → drop (min (length t) 256) (map f t) ≡ drop 256 (map f t)
-    past f = ap (λ (n : ℕ). drop (min n 256) (map f t)) (sym (length-map t f)) ∙ drop-least 256 (map f t)
+    past : (f : Range → ℕ) → drop (min (length t) mostUnits) (map f t) ≡ drop mostUnits (map f t)
+    past f = ap (λ (n : ℕ). drop (min n mostUnits) (map f t)) (sym (length-map t f)) ∙ drop-least mostUnits (map f t)
