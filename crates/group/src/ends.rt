@@ -4,13 +4,13 @@ use model::numbers::apart;
 use probe::pins::into_reach;
 use probe::pins::last_within;
 use probe::pins::value_at;
-use probe::probing::Spot;
+use probe::probing::Trial;
 use probe::probing::taken_at;
 use probe::rows::read_row;
 ghost use mathlib.Core.Path.{_≡_};
 ghost use Prim.Native.Nat.{_≤_, min};
 ghost use Rattle.model.specs.Plans.{taken};
-ghost use Rattle.group.specs.Inner.Edges.{Edge, Reach, Approach};
+ghost use Rattle.group.specs.Inner.Edges.{Edge, Reaches, Approach};
 ghost use Rattle.group.specs.Inner.Flanks.{Flanking, OneRow, ToOneRow, flanksOf};
 
 // Two values of a member, of which no plan gives it the outer one and some plan the inner one, and the rows on either side of theirs.
@@ -78,7 +78,7 @@ fn to_one_row(lows: &[u64], highs: &[u64], table: &[u64], question: Question, fl
     while 1 < apart(far as u64, near as u64) {
         let row = (far + near) / 2;
         let value = value_at(read_row(table, row), low, high, question.total);
-        if taken_at(lows, highs, table, question, Spot { member, value, row }) {
+        if taken_at(lows, highs, table, question, Trial { member, value, row }) {
             inner = value;
             near = row;
         } else {
@@ -106,7 +106,7 @@ fn edge(lows: &[u64], highs: &[u64], table: &[u64], question: Question, gap: Gap
     let mut inner = gap.inner;
     while 1 < apart(outer, inner) {
         let value = (outer + inner) / 2;
-        if taken_at(lows, highs, table, question, Spot { member, value, row }) {
+        if taken_at(lows, highs, table, question, Trial { member, value, row }) {
             inner = value;
         } else {
             outer = value;
@@ -122,11 +122,11 @@ pub(crate) fn farthest_taken(
     highs: &[u64],
     table: &[u64],
     question: Question,
-    share: Spot,
+    share: Trial,
     end: u64,
 ) -> u64
     requires { ⌜ Approach (now lows) (now highs) (now table) (question .total) (question .limits) (share .member) end (share .value) ⌝ }
-    ensures { λ r. ⌜ Reach (taken (now (lows .entry)) (now (highs .entry)) (question .total) (question .limits) (share .member)) end (share .value) r ⌝ }
+    ensures { λ r. ⌜ Reaches (taken (now (lows .entry)) (now (highs .entry)) (question .total) (question .limits) (share .member)) end (share .value) r ⌝ }
 {
     let member = share.member;
     let low = lows[member];
@@ -135,7 +135,7 @@ pub(crate) fn farthest_taken(
     let last = 2 * lows.len();
     let value = into_reach(table, last, low, high, end, total);
     let row = last_within(table, last, low, high, value, total, share.row);
-    if taken_at(lows, highs, table, question, Spot { member, value, row }) {
+    if taken_at(lows, highs, table, question, Trial { member, value, row }) {
         return value;
     }
     let own = last_within(table, last, low, high, share.value, total, share.row);

@@ -8,7 +8,7 @@ use model::Turn;
 use model::levels::clamp;
 use model::lists::copy;
 use probe::build::build;
-use probe::probing::Spot;
+use probe::probing::Trial;
 use probe::probing::has_plan;
 use probe::probing::level_on;
 ghost use mathlib.Core.Path.{_≡_};
@@ -49,7 +49,7 @@ fn narrow_on(
         let high = highs[member];
         let more = extra(low, high, v, left);
         let value = clamp(low, high, v) + more;
-        let share = Spot { member, value, row };
+        let share = Trial { member, value, row };
         left -= more;
         starts[member] = farthest_taken(lows, highs, table, question, share, low);
         stops[member] = farthest_taken(lows, highs, table, question, share, high);

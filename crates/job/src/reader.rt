@@ -12,7 +12,7 @@ ghost use Rattle.model.specs.Shares.{mostUnits};
 use crate::Reading;
 use crate::refused;
 use crate::steps::Progress;
-use crate::steps::Taken;
+use crate::steps::TakenLine;
 use crate::steps::take_line;
 use text::Spot;
 
@@ -44,7 +44,7 @@ impl<'a> Reader<'a> {
         lows: &mut [u64],
         highs: &mut [u64],
         flat: &mut [u64],
-    ) -> Taken
+    ) -> TakenLine
         requires { ⌜ Bounded progress × (length (now (self .text)) ≤ mostBytes) × (mostUnits ≤ length (now lows)) × (mostUnits ≤ length (now highs)) × (mostFlat ≤ length (now flat)) ⌝ }
         ensures { λ r. ⌜ LineTaken (now (self .entry .text)) progress (self .entry .at) (now (lows .entry)) (now (highs .entry)) (now (flat .entry)) (now (lows .exit)) (now (highs .exit)) (now (flat .exit)) r ⌝ }
     {
@@ -90,11 +90,11 @@ pub fn scan_lines(text: &[u8], lows: &mut [u64], highs: &mut [u64], flat: &mut [
     };
     while !reader.at_end() {
         match reader.take_line(progress, lows, highs, flat) {
-            Taken::Line(more, next) => {
+            TakenLine::Line(more, next) => {
                 progress = more;
                 reader = reader.moved(next);
             }
-            Taken::Refused(refusal) => {
+            TakenLine::Refused(refusal) => {
                 return Reading::Refused(refusal);
             }
         }

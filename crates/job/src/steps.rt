@@ -36,7 +36,7 @@ pub struct Progress {
 }
 
 // What taking a line answers: what was read with it, and the spot after it.
-pub enum Taken {
+pub enum TakenLine {
     Line(Progress, Spot),
     Refused(Refusal),
 }
@@ -139,12 +139,12 @@ fn group_verdict(progress: Progress, head: Head, members: Members, flat: &[u64],
 }
 
 // The refusal of the line after what was read.
-fn refuse(progress: Progress, number: u64) -> Taken
+fn refuse(progress: Progress, number: u64) -> TakenLine
     requires { ⌜ Bounded progress ⌝ }
-    ensures { λ r. ⌜ r ≡ Taken.Refused (refusal number (placeAt progress)) ⌝ }
+    ensures { λ r. ⌜ r ≡ TakenLine.Refused (refusal number (placeAt progress)) ⌝ }
 {
     let place = (progress.units + progress.groups + 1) as u64;
-    Taken::Refused(Refusal { number, place })
+    TakenLine::Refused(Refusal { number, place })
 }
 
 fn take_unit(
@@ -154,7 +154,7 @@ fn take_unit(
     spot: Spot,
     lows: &mut [u64],
     highs: &mut [u64],
-) -> Taken
+) -> TakenLine
     requires { ⌜ Bounded progress × (mostUnits ≤ length (now lows)) × (mostUnits ≤ length (now highs)) ⌝ }
     ensures { λ r. ⌜ UnitTaken progress (record { low = low; high = high }) (spot .at) (now (lows .entry)) (now (highs .entry)) (now (lows .exit)) (now (highs .exit)) r ⌝ }
 {
@@ -172,10 +172,10 @@ fn take_unit(
         groups,
         memberships,
     };
-    Taken::Line(more, spot)
+    TakenLine::Line(more, spot)
 }
 
-fn take_group(text: &[u8], spot: Spot, progress: Progress, flat: &mut [u64]) -> Taken
+fn take_group(text: &[u8], spot: Spot, progress: Progress, flat: &mut [u64]) -> TakenLine
     requires { ⌜ Bounded progress × (length (now text) ≤ mostBytes) × (mostFlat ≤ length (now flat)) ⌝ }
     ensures { λ r. ⌜ GroupTaken (now (text .entry)) progress (spot .at) (now (flat .entry)) (now (flat .exit)) r ⌝ }
 {
@@ -201,7 +201,7 @@ fn take_group(text: &[u8], spot: Spot, progress: Progress, flat: &mut [u64]) -> 
         memberships: memberships + count,
     };
     let next = members.next;
-    Taken::Line(more, next)
+    TakenLine::Line(more, next)
 }
 
 // Takes the line at a spot: what it adds to the lists, or its refusal.
@@ -212,7 +212,7 @@ pub fn take_line(
     lows: &mut [u64],
     highs: &mut [u64],
     flat: &mut [u64],
-) -> Taken
+) -> TakenLine
     requires { ⌜ Bounded progress × (length (now text) ≤ mostBytes) × (mostUnits ≤ length (now lows)) × (mostUnits ≤ length (now highs)) × (mostFlat ≤ length (now flat)) ⌝ }
     ensures { λ r. ⌜ LineTaken (now (text .entry)) progress (spot .at) (now (lows .entry)) (now (highs .entry)) (now (flat .entry)) (now (lows .exit)) (now (highs .exit)) (now (flat .exit)) r ⌝ }
 {

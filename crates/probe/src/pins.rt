@@ -8,7 +8,7 @@ ghost use Prim.Native.Nat.{_+_, _-_, _≤_, _<_};
 ghost use Rattle.model.specs.Shares.{greatestShare, greatestTotal};
 ghost use Rattle.model.specs.Levels.{clamp, growth};
 ghost use Rattle.probe.specs.Inner.Rows.{rowAt};
-ghost use Rattle.probe.specs.Inner.Probes.{Pinnable, Probeable, Found, IntoReach, Divided, pinnedTotal};
+ghost use Rattle.probe.specs.Inner.Probes.{Pinnable, Probeable, LastWithin, IntoReach, Divided, pinnedTotal};
 
 // A level, how many members grew up to it from the row below, and the copies left over there.
 pub struct Reach {
@@ -67,7 +67,7 @@ pub fn last_within(
 ) -> usize
     requires { ⌜ Probeable (now table) last low high v ⌝ }
     requires { ⌜ pinnedTotal (rowAt (now table) 0) low high v ≤ total ⌝ }
-    ensures { λ r. ⌜ Found (now (table .entry)) last low high v total r ⌝ }
+    ensures { λ r. ⌜ LastWithin (now (table .entry)) last low high v total r ⌝ }
 {
     let mut k: usize = 0;
     let mut top: usize = last + 1;

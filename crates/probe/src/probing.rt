@@ -15,8 +15,8 @@ ghost use lib.ListN.{length};
 ghost use Rattle.model.specs.Plans.{hasPlan, taken};
 ghost use Rattle.probe.specs.Inner.Rows.{rowAt};
 ghost use Rattle.probe.specs.Inner.Tables.{SoundWithTotal, Breakpoints};
-ghost use Rattle.probe.specs.Inner.Probes.{Found, InReach, LevelledOn, pinnedTotal};
-ghost use Rattle.probe.specs.Inner.Verdicts.{Asked, PinnedFigures, Spotted};
+ghost use Rattle.probe.specs.Inner.Probes.{LastWithin, InReach, LevelledOn, pinnedTotal};
+ghost use Rattle.probe.specs.Inner.Verdicts.{Asked, PinnedFigures, Triable};
 
 // The figures of the pinned group's levelled shares, from the row below its level.
 fn pinned_figures(
@@ -32,7 +32,7 @@ fn pinned_figures(
     requires { ⌜ SoundWithTotal (now lows) (now highs) total ⌝ }
     requires { ⌜ Breakpoints (now lows) (now highs) total (now table) ⌝ }
     requires { ⌜ Asked (now lows) (now highs) low high v ⌝ }
-    requires { ⌜ Found (now table) (2 * length (now lows)) low high v total k ⌝ }
+    requires { ⌜ LastWithin (now table) (2 * length (now lows)) low high v total k ⌝ }
     requires { ⌜ total ≤ pinnedTotal (rowAt (now table) (2 * length (now lows))) low high v ⌝ }
     ensures { λ r. ⌜ PinnedFigures (now (lows .entry)) (now (highs .entry)) low high v total r ⌝ }
 {
@@ -49,28 +49,28 @@ fn pinned_figures(
     }
 }
 
-// A value of a member, and the row below the level at which the others make up for it.
-pub struct Spot {
+// A value tried for a member, and the row below the level at which the others make up for it.
+pub struct Trial {
     pub member: usize,
     pub value: u64,
     pub row: usize,
 }
 
 // Whether the group with the member pinned to the value has a plan.
-pub fn taken_at(lows: &[u64], highs: &[u64], table: &[u64], question: Question, spot: Spot) -> bool
-    requires { ⌜ Spotted (now lows) (now highs) (now table) (question .total) spot ⌝ }
-    ensures { λ r. ⌜ r ≡ taken (now (lows .entry)) (now (highs .entry)) (question .total) (question .limits) (spot .member) (spot .value) ⌝ }
+pub fn taken_at(lows: &[u64], highs: &[u64], table: &[u64], question: Question, trial: Trial) -> bool
+    requires { ⌜ Triable (now lows) (now highs) (now table) (question .total) trial ⌝ }
+    ensures { λ r. ⌜ r ≡ taken (now (lows .entry)) (now (highs .entry)) (question .total) (question .limits) (trial .member) (trial .value) ⌝ }
 {
-    let i = spot.member;
+    let i = trial.member;
     let total = question.total;
     let figures = pinned_figures(
         lows,
         highs,
         table,
-        spot.row,
+        trial.row,
         lows[i],
         highs[i],
-        spot.value,
+        trial.value,
         total,
     );
     question.limits.met(figures)
@@ -107,7 +107,7 @@ pub fn has_plan(lows: &[u64], highs: &[u64], table: &[u64], question: Question, 
     requires { ⌜ SoundWithTotal (now lows) (now highs) (question .total) ⌝ }
     requires { ⌜ Breakpoints (now lows) (now highs) (question .total) (now table) ⌝ }
     requires { ⌜ InReach (now table) (2 * length (now lows)) 0 0 0 (question .total) ⌝ }
-    requires { ⌜ Found (now table) (2 * length (now lows)) 0 0 0 (question .total) row ⌝ }
+    requires { ⌜ LastWithin (now table) (2 * length (now lows)) 0 0 0 (question .total) row ⌝ }
     ensures { λ r. ⌜ r ≡ hasPlan (now (lows .entry)) (now (highs .entry)) (question .total) (question .limits) ⌝ }
 {
     let total = question.total;

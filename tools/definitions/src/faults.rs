@@ -7,7 +7,7 @@ use crate::tree::{Id, Tree};
 use std::collections::BTreeMap;
 
 /// A line for each fault: what is reached stands right in specs/, in a file without laws, and nothing else stands there; no two
-/// public definitions have one name.
+/// public definitions or types of sources have one name.
 pub fn faults(tree: &Tree, reached: &Reached) -> Vec<String> {
     let mut said: Vec<(Id, String)> = Vec::new();
     for id in by_file(tree, reached, Kind::Definition).concat() {
@@ -25,7 +25,15 @@ pub fn faults(tree: &Tree, reached: &Reached) -> Vec<String> {
 
 /// The public definitions of specs.
 pub fn definitions(tree: &Tree) -> Vec<Id> {
-    let is_one = |own: &Declaration| own.kind == Kind::Definition && own.public;
+    declarations(tree, |own| own.kind == Kind::Definition && own.public)
+}
+
+/// The public definitions of specs and the types of sources.
+pub fn named(tree: &Tree) -> Vec<Id> {
+    declarations(tree, |own| own.kind == Kind::Type || own.kind == Kind::Definition && own.public)
+}
+
+fn declarations(tree: &Tree, is_one: fn(&Declaration) -> bool) -> Vec<Id> {
     let all = tree.files.iter().enumerate().flat_map(|(file, here)| {
         here.declarations.iter().enumerate().filter(move |(_, own)| is_one(own)).map(move |(at, _)| (file, at))
     });
@@ -57,11 +65,11 @@ fn misplaced(tree: &Tree, id: Id) -> Option<String> {
     }
 }
 
-/// The definitions whose name another one before them has.
+/// The definitions and types whose name another one before them has.
 fn shared(tree: &Tree) -> Vec<(Id, String)> {
     let mut first: BTreeMap<&str, Id> = BTreeMap::new();
     let mut said = Vec::new();
-    for id in definitions(tree) {
+    for id in named(tree) {
         match first.get(tree.declaration(id).name.as_str()) {
             Some(before) => said.push((id, format!("has the name of {}", place(tree, *before)))),
             None => {

@@ -1,7 +1,7 @@
 //! definitions [--check]: lists the definitions that there are to believe, or checks that they stand apart from laws, that none
 //! shares a name and that README.md has their count. Runs in the repository's root.
 
-use danivomel_definitions::faults::{definitions, faults};
+use danivomel_definitions::faults::{faults, named};
 use danivomel_definitions::file::Kind;
 use danivomel_definitions::listing::{count, list};
 use danivomel_definitions::origins::{entries, promised};
@@ -81,7 +81,7 @@ fn checked(found: &Found) -> ExitCode {
         wrong.push(format!("README.md: does not say '{quoted}'"));
     }
     wrong.iter().for_each(|fault| println!("{fault}"));
-    let asked = all.declarations + definitions(tree).len() + 1;
+    let asked = all.declarations + named(tree).len() + 1;
     println!("definitions: {} passed, {} failed", asked.saturating_sub(wrong.len()), wrong.len());
     ExitCode::from(if wrong.is_empty() { 0 } else { 1 })
 }

@@ -128,7 +128,8 @@ fn one_name_twice() {
 fn count_as_quoted() {
     let contracts = Count { declarations: 2, lines: 1000, files: 1 };
     let all = Count { declarations: 3, lines: 12_034, files: 2 };
-    let sentence = "3 definitions, 12,034 lines in 2 files (2 of them, 1,000 lines, from the contracts of the entry points alone)";
+    let sentence =
+        "3 definitions, 12,034 lines in 2 files (2 of them, 1,000 lines, from the contracts of the entry points alone)";
     assert_eq!(all.quoted(&contracts), sentence);
 }
 

@@ -24,9 +24,9 @@ pub record Edge (test : ℕ → Bool) (outside inside inner : ℕ) : Type 0 wher
   pub near : apart outer inner ≤ 1
 
 -- how far from inside to an end values pass: to the end itself, or to an edge before it
-pub data Reach (test : ℕ → Bool) (end inside : ℕ) : ℕ → Type 0 where
-  whole : test end ≡ true → Reach test end inside end
-  part : {r : ℕ} → test end ≡ false → Edge test end inside r → Reach test end inside r
+pub data Reaches (test : ℕ → Bool) (end inside : ℕ) : ℕ → Type 0 where
+  whole : test end ≡ true → Reaches test end inside end
+  part : {r : ℕ} → test end ≡ false → Edge test end inside r → Reaches test end inside r
 
 -- a way from a share that some plan gives member i to an end
 pub record Approach (lows highs table : List ℕ) (total : ℕ) (limits : Limits) (i end share : ℕ) : Type 0 where

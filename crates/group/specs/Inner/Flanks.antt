@@ -7,17 +7,17 @@ use lib.Dec.{ltb}
 use lib.ListN.{length, getD}
 use Rattle.model.specs.Plans.{taken}
 use Rattle.model.specs.declared.Limits.{Limits}
-use Rattle.probe.specs.Inner.Probes.{Found, RowOf, MadeUp}
+use Rattle.probe.specs.Inner.Probes.{LastWithin, RowOf, MadeUp}
 use Rattle.group.specs.declared.ends.Flanks.{Flanks}
 use Rattle.group.specs.declared.ends.Gap.{Gap}
 use Rattle.group.specs.Inner.Edges.{Straddle, Approach}
 
 -- the rows far and near lie around those of outer and inner: the lesser value's row is just before the later of the two rows
 pub record Flanked (table : List ℕ) (last low high total outer inner far near : ℕ) : Type 0 where
-  pub rising : outer < inner → (near < far) × (far ≤ suc last) × Found table last low high inner total near
-      × ((j : ℕ) → suc j ≡ far → Found table last low high outer total j)
-  pub falling : inner < outer → (far < near) × (near ≤ suc last) × Found table last low high outer total far
-      × ((j : ℕ) → suc j ≡ near → Found table last low high inner total j)
+  pub rising : outer < inner → (near < far) × (far ≤ suc last) × LastWithin table last low high inner total near
+      × ((j : ℕ) → suc j ≡ far → LastWithin table last low high outer total j)
+  pub falling : inner < outer → (far < near) × (near ≤ suc last) × LastWithin table last low high outer total far
+      × ((j : ℕ) → suc j ≡ near → LastWithin table last low high inner total j)
 
 -- a way to a value that the others can make up for, but no plan gives the member
 pub record Search (lows highs table : List ℕ) (total : ℕ) (limits : Limits) (i outer inner : ℕ) : Type 0 where

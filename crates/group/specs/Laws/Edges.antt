@@ -12,7 +12,7 @@ use Rattle.model.specs.Plans.{taken}
 use Rattle.model.specs.Laws.Tests.{clash}
 use Rattle.model.specs.declared.Limits.{Limits}
 use Rattle.group.specs.Inner.Tabled.{HasPlan}
-use Rattle.group.specs.Inner.Edges.{Straddle, Edge, Reach}
+use Rattle.group.specs.Inner.Edges.{Straddle, Edge, Reaches}
 
 -- so they differ
 pub straddle-differ : {test : ℕ → Bool} {outside inside outer inner : ℕ} → Straddle test outside inside outer inner → outer ≢ inner
@@ -37,17 +37,17 @@ pub data Nearest (test : ℕ → Bool) (end inside : ℕ) : ℕ → Type 0 where
 
 module _ {test : ℕ → Bool} {end inside : ℕ} where
   -- where it passes, values pass up to it
-  pub nearest-reach : {r : ℕ} → Nearest test end inside r → test r ≡ true → Reach test end inside r
-  nearest-reach Nearest.whole passes = Reach.whole passes
+  pub nearest-reach : {r : ℕ} → Nearest test end inside r → test r ≡ true → Reaches test end inside r
+  nearest-reach Nearest.whole passes = Reaches.whole passes
   nearest-reach (Nearest.part outer fails fails-outer near rising falling) passes =
-      Reach.part fails (record { outer = outer; straddle = record { fails = fails-outer; passes = passes; rising = rising; falling = falling }; near = near })
+      Reaches.part fails (record { outer = outer; straddle = record { fails = fails-outer; passes = passes; rising = rising; falling = falling }; near = near })
 
   -- where it fails, an edge on the way to it is one on the way to the end
-  pub nearest-edge : {r : ℕ} → Nearest test end inside r → test r ≡ false → test inside ≡ true → {e : ℕ} → Edge test r inside e → Reach test end inside e
-  nearest-edge Nearest.whole fails passes edge = Reach.part fails edge
+  pub nearest-edge : {r : ℕ} → Nearest test end inside r → test r ≡ false → test inside ≡ true → {e : ℕ} → Edge test r inside e → Reaches test end inside e
+  nearest-edge Nearest.whole fails passes edge = Reaches.part fails edge
   nearest-edge {r} (Nearest.part outer fails fails-outer near rising falling) fails-here passes edge =
       let other : r ≢ inside = (λ same. clash passes (ap test (sym same) ∙ fails-here)) in
-      Reach.part fails (record {
+      Reaches.part fails (record {
         outer = edge .outer;
         straddle = record {
           fails = edge .straddle .fails;

@@ -20,7 +20,7 @@ use Rattle.model.specs.declared.Limits.{Limits}
 use Rattle.probe.specs.Inner.Pins.{Reached}
 use Rattle.probe.specs.Laws.Pins.{reached-adds, reached-figures}
 use Rattle.group.specs.Inner.Tabled.{Tabled, HasPlan}
-use Rattle.group.specs.Inner.Edges.{Edge, Reach, Approach}
+use Rattle.group.specs.Inner.Edges.{Edge, Reaches, Approach}
 use Rattle.group.specs.Laws.Edges.{Planned}
 
 -- a group that has a plan gives member i its share at the level reached by one
@@ -104,11 +104,11 @@ module _ {lows highs : List ℕ} {total : ℕ} {limits : Limits} {i share : ℕ}
       (λ high. rw next (edge .straddle .fails)))
 
   -- what the search toward the low reaches is the narrowed low
-  pub low-reached : {r : ℕ} → Reach (taken lows highs total limits i) (getD lows i 0) share r → r ≡ narrowedLow lows highs total limits i
-  low-reached (Reach.whole passes) = low-stays passes
-  low-reached (Reach.part {r} fails edge) = low-found fails r edge
+  pub low-reached : {r : ℕ} → Reaches (taken lows highs total limits i) (getD lows i 0) share r → r ≡ narrowedLow lows highs total limits i
+  low-reached (Reaches.whole passes) = low-stays passes
+  low-reached (Reaches.part {r} fails edge) = low-found fails r edge
 
   -- and toward the high, the narrowed high
-  pub high-reached : {r : ℕ} → Reach (taken lows highs total limits i) (getD highs i 0) share r → r ≡ narrowedHigh lows highs total limits i
-  high-reached (Reach.whole passes) = high-stays passes
-  high-reached (Reach.part {r} fails edge) = high-found fails r edge
+  pub high-reached : {r : ℕ} → Reaches (taken lows highs total limits i) (getD highs i 0) share r → r ≡ narrowedHigh lows highs total limits i
+  high-reached (Reaches.whole passes) = high-stays passes
+  high-reached (Reaches.part {r} fails edge) = high-found fails r edge

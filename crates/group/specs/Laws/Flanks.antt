@@ -17,7 +17,7 @@ use Rattle.model.specs.Laws.Tests.{clash}
 use Rattle.model.specs.declared.Limits.{Limits}
 use Rattle.probe.specs.Inner.Rows.{rowAt}
 use Rattle.probe.specs.Inner.Probes.{pinnedTotal, RowOf, MadeUp}
-use Rattle.probe.specs.Inner.Verdicts.{Spotted}
+use Rattle.probe.specs.Inner.Verdicts.{Triable}
 use Rattle.probe.specs.Laws.Reaching.{found-between, reach-between, found-order, value-fits, at-most, at-least, found-at, found-before}
 use Rattle.group.specs.declared.ends.Flanks.{Flanks}
 use Rattle.group.specs.declared.ends.Gap.{Gap}
@@ -47,8 +47,8 @@ module _ {lows highs table : List ℕ} {total : ℕ} {limits : Limits} {i outer 
         ]
 
     module _ (small : v ≤ greatestShare) where
-      pub search-spotted : {k : ℕ} → RowOf lows highs table total i v k → Spotted lows highs table total (record { member = i; value = v; row = k })
-      search-spotted found = record {
+      pub search-triable : {k : ℕ} → RowOf lows highs table total i v k → Triable lows highs table total (record { member = i; value = v; row = k })
+      search-triable found = record {
         sound = search .way .tabled .sound;
         held = search .way .tabled .held;
         here = search .way .here;
@@ -226,8 +226,8 @@ module _ {lows highs table : List ℕ} {total : ℕ} {limits : Limits} {flanks :
       flanks-found : Of v k
       flanks-found = found-at (tabled .sound) (tabled .held) i here (flanks-row .0) is flanks-small
 
-      pub flanks-spotted : Spotted lows highs table total (record { member = i; value = v; row = k })
-      flanks-spotted = search-spotted (flanking .search) flanks-between flanks-small flanks-found
+      pub flanks-triable : Triable lows highs table total (record { member = i; value = v; row = k })
+      flanks-triable = search-triable (flanking .search) flanks-between flanks-small flanks-found
 
       -- a value that is taken takes inner's place
       pub flanks-in : taken lows highs total limits i v ≡ true
@@ -275,8 +275,8 @@ module _ {lows highs table : List ℕ} {total : ℕ} {limits : Limits} {gap : Ga
             found-between (one .of-inner) (one .of-outer) v (between .falling less .0) (between .falling less .1)
       ]
 
-  pub row-spotted : Spotted lows highs table total (record { member = gap .member; value = v; row = gap .row })
-  row-spotted = search-spotted (one .search) between small of-row
+  pub row-triable : Triable lows highs table total (record { member = gap .member; value = v; row = gap .row })
+  row-triable = search-triable (one .search) between small of-row
 
   pub row-in : taken lows highs total limits (gap .member) v ≡ true
       → OneRow lows highs table total limits (record { member = gap .member; outer = gap .outer; inner = v; row = gap .row })

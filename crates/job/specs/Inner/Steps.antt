@@ -10,9 +10,9 @@ use Rattle.groups.specs.Memberships.{memberships}
 use Rattle.groups.specs.Inner.Flat.{flatten, flatLength}
 use Rattle.job.specs.Job.{Job, mostGroups, mostMemberships, LineStep, next, stop, stepOn}
 use Rattle.job.specs.declared.steps.Progress.{Progress}
-use Rattle.job.specs.declared.steps.Taken.{Taken}
+use Rattle.job.specs.declared.steps.TakenLine.{TakenLine}
 use Rattle.model.specs.Shares.{mostUnits}
-use Rattle.job.specs.declared.steps.Taken.the-variants as taken
+use Rattle.job.specs.declared.steps.TakenLine.the-variants as taken
 
 -- the counts are within 01's limits
 pub record Bounded (p : Progress) : Type 0 where
@@ -41,7 +41,7 @@ pub record ReadSoFar (job : Job) (p : Progress) (l : Lists) : Type 0 where
   pub flat : l .flat ≡ flatten (job .groups) ++ drop (flatLength (p .groups) (p .memberships)) (l .flat₀)
 
 -- an answer says what a line did
-abbrev pub Answers : List ℕ → Lists → Taken → LineStep → Type 0
+abbrev pub Answers : List ℕ → Lists → TakenLine → LineStep → Type 0
 Answers text l (taken.Line p spot) stepped = (job : Job) × (stepped ≡ next job (drop (spot .at) text)) × ReadSoFar job p l
 Answers text l (taken.Refused r) stepped = stepped ≡ stop r
 
@@ -51,21 +51,21 @@ lists lows₀ highs₀ flat₀ lows highs flat =
     record { lows₀ = lows₀; highs₀ = highs₀; flat₀ = flat₀; lows = lows; highs = highs; flat = flat }
 
 -- taking a unit line, whatever the job so far
-abbrev pub UnitTaken : Progress → UnitLine → ℕ → List ℕ → List ℕ → List ℕ → List ℕ → Taken → Type 0
+abbrev pub UnitTaken : Progress → UnitLine → ℕ → List ℕ → List ℕ → List ℕ → List ℕ → TakenLine → Type 0
 UnitTaken p u at lows highs lows′ highs′ r =
     (text : List ℕ) (job : Job) (lows₀ highs₀ flat₀ flat : List ℕ)
     → ReadSoFar job p (lists lows₀ highs₀ flat₀ lows highs flat)
     → Answers text (lists lows₀ highs₀ flat₀ lows′ highs′ flat) r (stepOn job (parsed (unit u) (drop at text)))
 
 -- taking a group line
-abbrev pub GroupTaken : List ℕ → Progress → ℕ → List ℕ → List ℕ → Taken → Type 0
+abbrev pub GroupTaken : List ℕ → Progress → ℕ → List ℕ → List ℕ → TakenLine → Type 0
 GroupTaken text p at flat flat′ r =
     (job : Job) (lows₀ highs₀ flat₀ lows highs : List ℕ)
     → ReadSoFar job p (lists lows₀ highs₀ flat₀ lows highs flat)
     → Answers text (lists lows₀ highs₀ flat₀ lows highs flat′) r (stepOn job (mapped group (groupAs held (drop at text))))
 
 -- taking a line
-abbrev pub LineTaken : List ℕ → Progress → ℕ → List ℕ → List ℕ → List ℕ → List ℕ → List ℕ → List ℕ → Taken → Type 0
+abbrev pub LineTaken : List ℕ → Progress → ℕ → List ℕ → List ℕ → List ℕ → List ℕ → List ℕ → List ℕ → TakenLine → Type 0
 LineTaken text p at lows highs flat lows′ highs′ flat′ r =
     (job : Job) (lows₀ highs₀ flat₀ : List ℕ)
     → ReadSoFar job p (lists lows₀ highs₀ flat₀ lows highs flat)

@@ -13,7 +13,7 @@ use Rattle.groups.specs.Inner.Flat.{flatten}
 use Rattle.groups.specs.Laws.Storing.{length-flatten}
 use Rattle.job.specs.Job.{Job, mostBytes, noLines, stop, stepOn, JobOrRefusal, accepted, refused, readLines, someUnit, readJob}
 use Rattle.job.specs.Inner.Steps.{lists, ReadSoFar, Answers}
-use Rattle.job.specs.declared.steps.Taken.the-variants as taken
+use Rattle.job.specs.declared.steps.TakenLine.the-variants as taken
 use Rattle.text.specs.declared.Spot.{Spot}
 use Rattle.job.specs.Inner.Reading.{Scanned, countsOf}
 use Rattle.job.specs.Laws.Reading.{read-next, read-stop, read-end}

@@ -28,7 +28,7 @@ pub record Probeable (table : List ℕ) (last low high v : ℕ) : Type 0 where
   pub rows : (k : ℕ) → k ≤ last → Pinnable (rowAt table k) low high v
 
 -- a row with T at most the total, whose next row has at least the total
-pub record Found (table : List ℕ) (last low high v total k : ℕ) : Type 0 where
+pub record LastWithin (table : List ℕ) (last low high v total k : ℕ) : Type 0 where
   pub upTo : k ≤ last
   pub holds : pinnedTotal (rowAt table k) low high v ≤ total
   pub next : k < last → total ≤ pinnedTotal (rowAt table (suc k)) low high v
@@ -40,7 +40,7 @@ pub record InReach (table : List ℕ) (last low high v total : ℕ) : Type 0 whe
 
 -- the same for a value of member i of a group, whose table has twice as many rows after the first
 abbrev pub RowOf : List ℕ → List ℕ → List ℕ → ℕ → ℕ → ℕ → ℕ → Type 0
-RowOf lows highs table total i v k = Found table (2 * length lows) (getD lows i 0) (getD highs i 0) v total k
+RowOf lows highs table total i v k = LastWithin table (2 * length lows) (getD lows i 0) (getD highs i 0) v total k
 
 abbrev pub MadeUp : List ℕ → List ℕ → List ℕ → ℕ → ℕ → ℕ → Type 0
 MadeUp lows highs table total i v = InReach table (2 * length lows) (getD lows i 0) (getD highs i 0) v total
@@ -61,7 +61,7 @@ pub record Divided (row : Row) (low high left : ℕ) (reach : Reach) : Type 0 wh
 
 -- a level with copies left over that gives the group its total, and the row below it
 pub record LevelledOn (lows highs table : List ℕ) (total : ℕ) (at : Levelled) : Type 0 where
-  pub found : Found table (2 * length lows) 0 0 0 total (at .row)
+  pub found : LastWithin table (2 * length lows) 0 0 0 total (at .row)
   pub mark : ℕ
   pub moving : ℕ
   pub reached : Reached lows highs total mark moving (at .level) (at .over)

@@ -7,7 +7,7 @@ use Rattle.model.specs.Shares.{greatestShare}
 use Rattle.model.specs.Figures.{figuresOf}
 use Rattle.model.specs.Levels.{levelled}
 use Rattle.model.specs.declared.Figures.{Figures}
-use Rattle.probe.specs.declared.probing.Spot.{Spot}
+use Rattle.probe.specs.declared.probing.Trial.{Trial}
 use Rattle.probe.specs.Inner.Tables.{SoundWithTotal, Breakpoints}
 use Rattle.probe.specs.Inner.Pins.{Pin}
 use Rattle.probe.specs.Inner.Probes.{RowOf, MadeUp}
@@ -23,10 +23,10 @@ pub record PinnedFigures (lows highs : List ℕ) (low high v total : ℕ) (figur
   pub is : {lows′ highs′ : List ℕ} → Pin lows highs low high v lows′ highs′ → figures ≡ figuresOf (length lows′) total (levelled lows′ highs′ total)
 
 -- a value that the other members can make up for, with its row
-pub record Spotted (lows highs table : List ℕ) (total : ℕ) (spot : Spot) : Type 0 where
+pub record Triable (lows highs table : List ℕ) (total : ℕ) (trial : Trial) : Type 0 where
   pub sound : SoundWithTotal lows highs total
   pub held : Breakpoints lows highs total table
-  pub here : spot .member < length lows
-  pub small : spot .value ≤ greatestShare
-  pub reach : MadeUp lows highs table total (spot .member) (spot .value)
-  pub found : RowOf lows highs table total (spot .member) (spot .value) (spot .row)
+  pub here : trial .member < length lows
+  pub small : trial .value ≤ greatestShare
+  pub reach : MadeUp lows highs table total (trial .member) (trial .value)
+  pub found : RowOf lows highs table total (trial .member) (trial .value) (trial .row)

@@ -16,7 +16,7 @@ use Rattle.probe.specs.Inner.Tables.{SoundWithTotal, Breakpoints, itself
 use Rattle.probe.specs.Laws.Tables.{small-itself, clamped-small}
 use Rattle.probe.specs.Inner.Pins.{Pin, Reached}
 use Rattle.probe.specs.Laws.Pins.{pinned-span, grows, reached-mark, reached-between}
-use Rattle.probe.specs.Inner.Probes.{pinnedTotal, Pinnable, Probeable, Found, Divided}
+use Rattle.probe.specs.Inner.Probes.{pinnedTotal, Pinnable, Probeable, LastWithin, Divided}
 
 module _ {lows highs table lows′ highs′ : List ℕ} {total low high v : ℕ} (sound : SoundWithTotal lows highs total) (held : Breakpoints lows highs total table)
     (pin : Pin lows highs low high v lows′ highs′) where
@@ -40,7 +40,7 @@ module _ {lows highs table lows′ highs′ : List ℕ} {total low high v : ℕ}
   pub probeable : Probeable table (2 * length lows) low high v
   probeable = record { few = omega (arith, sound .few); room = held .room; rows = pinnable }
 
-  module _ {k : ℕ} (found : Found table (2 * length lows) low high v total k) (enough : total ≤ pinnedTotal (rowAt table (2 * length lows)) low high v) where
+  module _ {k : ℕ} (found : LastWithin table (2 * length lows) low high v total k) (enough : total ≤ pinnedTotal (rowAt table (2 * length lows)) low high v) where
     abbrev row : Row
     row = rowAt table k
 

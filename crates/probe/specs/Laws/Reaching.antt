@@ -16,7 +16,7 @@ use Rattle.probe.specs.declared.rows.Row.{Row}
 use Rattle.probe.specs.Inner.Rows.{rowAt}
 use Rattle.probe.specs.Inner.Tables.{SoundWithTotal, Breakpoints}
 use Rattle.probe.specs.Laws.Pins.{pinned, unpinned}
-use Rattle.probe.specs.Inner.Probes.{pinnedTotal, Found, InReach}
+use Rattle.probe.specs.Inner.Probes.{pinnedTotal, LastWithin, InReach}
 use Rattle.probe.specs.Laws.Probes.{pinnable, pinned-total}
 use Rattle.probe.specs.Laws.Verdicts.{least-total, greatest-total, too-much, too-little}
 
@@ -26,8 +26,8 @@ unfolding pinnedTotal
 pinned-rise row low high under less = omega arith
 
 -- what lies between two values of one row is of that row
-pub found-between : {table : List ℕ} {last low high a b total k : ℕ} → Found table last low high a total k → Found table last low high b total k
-    → (m : ℕ) → a ≤ m → m ≤ b → Found table last low high m total k
+pub found-between : {table : List ℕ} {last low high a b total k : ℕ} → LastWithin table last low high a total k → LastWithin table last low high b total k
+    → (m : ℕ) → a ≤ m → m ≤ b → LastWithin table last low high m total k
 unfolding pinnedTotal
 found-between from upTo m above below = record {
   upTo = from .upTo;
@@ -83,7 +83,7 @@ module _ {lows highs table : List ℕ} {total : ℕ} (sound : SoundWithTotal low
     high = getD highs i 0
 
     abbrev Of : ℕ → ℕ → Type 0
-    Of v k = Found table last low high v total k
+    Of v k = LastWithin table last low high v total k
 
     module _ (w : ℕ) (small : w ≤ greatestShare) where
       abbrev at : ℕ → ℕ

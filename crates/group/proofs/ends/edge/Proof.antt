@@ -10,7 +10,7 @@ use Rattle.model.specs.Plans.{taken}
 use Rattle.group.specs.Inner.Edges.{Straddle}
 use Rattle.group.specs.Inner.Flanks.{OneRow}
 use Rattle.group.specs.Laws.Edges.{Amid, Between, straddle-start, straddle-in, straddle-out, halfway, amid-nearer, amid-between}
-use Rattle.group.specs.Laws.Flanks.{row-spotted, row-in, row-out}
+use Rattle.group.specs.Laws.Flanks.{row-triable, row-in, row-out}
 use Rattle.group.proofs.ends.edge.Statement.{statement}
 use Rattle.group.proofs.ends.edge.Tie as tie
 
@@ -63,7 +63,7 @@ add-value c =
     omega (arith, way .small, way .share-small)
 
 taken-at-requires : tie.Need-taken-at-requires Inv-loop μ-loop
-taken-at-requires c κs = row-spotted (turn c .loop .inv .1) (between c) (nearer c .2)
+taken-at-requires c κs = row-triable (turn c .loop .inv .1) (between c) (nearer c .2)
 
 loop-less : tie.Need-loop-less Inv-loop μ-loop
 loop-less c = nearer (c .before .before) .0

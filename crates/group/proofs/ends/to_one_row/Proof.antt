@@ -15,7 +15,7 @@ use Rattle.probe.specs.Inner.Probes.{pinnedTotal}
 use Rattle.group.specs.Inner.Edges.{Straddle, Approach}
 use Rattle.group.specs.Inner.Flanks.{Flanking}
 use Rattle.group.specs.Laws.Edges.{Amid, straddle-start, straddle-in, straddle-out, halfway, amid-nearer}
-use Rattle.group.specs.Laws.Flanks.{flanks-row, flanks-between, flanks-spotted, flanks-in, flanks-out, flanks-few, flanks-end}
+use Rattle.group.specs.Laws.Flanks.{flanks-row, flanks-between, flanks-triable, flanks-in, flanks-out, flanks-few, flanks-end}
 use Rattle.group.proofs.ends.to_one_row.Statement.{statement}
 use Rattle.group.proofs.ends.to_one_row.Tie as tie
 
@@ -111,7 +111,7 @@ is : (c : tie.After-value-at Inv-loop μ-loop)
 is c = rw (c .before .read-row .ensures) at (c .value-at .ensures)
 
 taken-at-requires : tie.Need-taken-at-requires Inv-loop μ-loop
-taken-at-requires c κs = flanks-spotted (turn (then1 c) .loop .inv .1) (amid (then1 c)) (is c)
+taken-at-requires c κs = flanks-triable (turn (then1 c) .loop .inv .1) (amid (then1 c)) (is c)
 
 loop-less : tie.Need-loop-less Inv-loop μ-loop
 loop-less c = nearer (then1 (c .before .before)) .0

@@ -13,7 +13,7 @@ use Rattle.probe.specs.Inner.Rows.{rowAt}
 use Rattle.probe.specs.Inner.Tables.{SoundWithTotal, Sums, Breakpoints, fromMean, square}
 use Rattle.probe.specs.Laws.Tables.{Small, small-mean, small-square}
 use Rattle.probe.specs.Inner.Pins.{Pin, Reached}
-use Rattle.probe.specs.Inner.Probes.{pinnedTotal, Found, Divided}
+use Rattle.probe.specs.Inner.Probes.{pinnedTotal, LastWithin, Divided}
 use Rattle.probe.specs.Laws.Probes.{pinnable, growing, reached, divided-few}
 use Rattle.probe.specs.Inner.Figures.{Summable}
 use Rattle.probe.specs.Laws.Figures.{summable, moves-sum}
@@ -45,7 +45,7 @@ module _ (s : tie.Start) where
   asked : Asked lows highs (s .args .low) (s .args .high) (s .args .v)
   asked = s .pre .1 .1 .0
 
-  found : Found (s .args .table .now) (2 * length lows) (s .args .low) (s .args .high) (s .args .v) (s .args .total) (s .args .k)
+  found : LastWithin (s .args .table .now) (2 * length lows) (s .args .low) (s .args .high) (s .args .v) (s .args .total) (s .args .k)
   found = s .pre .1 .1 .1 .0
 
   sums : Sums lows highs (s .args .total) row

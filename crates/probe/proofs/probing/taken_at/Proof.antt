@@ -19,10 +19,10 @@ module _ (s : tie.Start) where
   highs = s .args .highs .now
 
   abbrev i : ℕ
-  i = s .args .spot .member
+  i = s .args .trial .member
 
   abbrev v : ℕ
-  v = s .args .spot .value
+  v = s .args .trial .value
 
   pin : Pin lows highs (getD lows i 0) (getD highs i 0) v (set lows i v) (set highs i v)
   pin = pinned (s .pre .sound .ranges) i v (s .pre .here) (s .pre .small)

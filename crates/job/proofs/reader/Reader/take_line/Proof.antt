@@ -49,15 +49,15 @@ use Rattle.groups.specs.Inner.Flat.{mostFlat}
 use Rattle.job.specs.Job.{mostBytes}
 use Rattle.job.specs.Inner.Steps.{Bounded, LineTaken}
 use Rattle.job.specs.declared.steps.Progress.{Progress}
-use Rattle.job.specs.declared.steps.Taken.{Taken}
+use Rattle.job.specs.declared.steps.TakenLine.{TakenLine}
 use Rattle.job.specs.declared.reader.Reader.{Reader}
 use Rattle.model.specs.Shares.{mostUnits}
 use Rattle.job.proofs.Closing.{proved}
 use Rattle.job.proofs.Releasing.{releases}
 use Rattle.job.proofs.steps.Progress as P
 use Rattle.job.proofs.steps.Progress.Laws as P′
-use Rattle.job.proofs.steps.Taken as D
-use Rattle.job.proofs.steps.Taken.Laws as D′
+use Rattle.job.proofs.steps.TakenLine as D
+use Rattle.job.proofs.steps.TakenLine.Laws as D′
 use Rattle.job.proofs.reader.Reader as T
 use Rattle.job.proofs.reader.Reader.Laws as T′
 use Rattle.job.proofs.steps.take_line as steps
@@ -133,7 +133,7 @@ module _ {M : Type 1} (𝓤 : URA M) (H : Heap 𝓤) (A : Atoms 𝓤) (W : Given
   abbrev Asked : Type 0
   Asked = Bounded p × (length (now (d .text)) ≤ mostBytes) × (mostUnits ≤ length (now x)) × (mostUnits ≤ length (now y)) × (mostFlat ≤ length (now z))
 
-  abbrev Said : Taken → List ℕ → List ℕ → List ℕ → Type 0
+  abbrev Said : TakenLine → List ℕ → List ℕ → List ℕ → Type 0
   Said r ls hs fs = LineTaken (now (d .text)) p (d .at) (now x) (now y) (now z) ls hs fs r
 
   -- what the callee's triple binds outside, and that it has what it asks
@@ -145,7 +145,7 @@ module _ {M : Type 1} (𝓤 : URA M) (H : Heap 𝓤) (A : Atoms 𝓤) (W : Given
       qed W (tokens ∷ ‵ Text ∷ ‵ Lows ∷ ‵ Highs ∷ ‵ Flat ∷ []) ∵ says ! asked $ frame ! $ nothing ! $ move ! (4 ∷ 0 ∷ []) $ fjoin ! $ move ! (3 ∷ 0 ∷ []) $ fjoin ! $ move ! (2 ∷ 0 ∷ []) $ fjoin ! $
       owned ! P.the-row (Is P.the-row) (LL.makes P.the-type P′.the-plain 𝓤 H A) p (w ∷ []) is $ fjoin ! $ owned ! S.the-row (Is S.the-row) (LL.makes S.the-type S′.the-plain 𝓤 H A) spot _ (LL.owes S.the-type S′.the-laws spot ((refl, fits), tt)) $ fjoin ! $ move ! (1 ∷ 0 ∷ []) $ fjoin ! $ done !
 
-  exits : (r : Taken) (u : Val) (ls hs fs : List ℕ) → length ls ≡ length (now x) → length hs ≡ length (now y) → length fs ≡ length (now z) → Said r ls hs fs
+  exits : (r : TakenLine) (u : Val) (ls hs fs : List ℕ) → length ls ≡ length (now x) → length hs ≡ length (now y) → length fs ≡ length (now z) → Said r ls hs fs
       → ent 𝓤 (⋆ 𝓤 H A (tokens ∷ ‵ (D.the-row .own r (u ∷ [])) ∷ ‵ Own ∷ ‵ (finally u64 (x .name) ls) ∷ ‵ (finally u64 (y .name) hs) ∷ ‵ (finally u64 (z .name) fs) ∷ [])) (Post u)
   exits r u ls hs fs el eh ef said =
       qed W (tokens ∷ ‵ (D.the-row .own r (u ∷ [])) ∷ ‵ Own ∷ ‵ (finally u64 (x .name) ls) ∷ ‵ (finally u64 (y .name) hs) ∷ ‵ (finally u64 (z .name) fs) ∷ []) ∵
@@ -175,7 +175,7 @@ module _ {M : Type 1} (𝓤 : URA M) (H : Heap 𝓤) (A : Atoms 𝓤) (W : Given
         -- [Text; Own; flat; highs; lows; _14; …; _0; …; the tokens]
         move ! (35 ∷ 0 ∷ 4 ∷ 3 ∷ 2 ∷ []) $ group ! 5 $ use1 W (raw (Line 𝓤 H A mem run .pre to)) (goes-line (wt .1 .1 .0 .fits) asked) $
         calls-at ! fm (Line 𝓤 H A mem run) known to (and-then ! (load ! (from ! (stop !)) (look ! 14 refl)) (and-then ! (load ! (from ! (stop !)) (look ! 18 refl)) (and-then ! (load ! (from ! (stop !)) (look ! 26 refl)) (and-then ! (load ! (from ! (stop !)) (look ! 10 refl)) (and-then ! (load ! (from ! (stop !)) (look ! 6 refl)) (and-then ! (load ! (from ! (stop !)) (look ! 2 refl)) (no-more !))))))) (λ u.
-        use1 W (later (some (λ (r : Taken). (tokens ⊛ ‵ (D.the-row .own r (u ∷ []))) ⊛ some (λ (zs : Unit {0} × (Unit {0} × (Unit {0} × (List ℕ × (List ℕ × (List ℕ × Unit {0})))))). ‵ (lasts steps.ended κs (d .text, (spot, (p, (x, (y, (z, tt)))))) zs) ⊛ raw (fact 𝓤 (Said r (zs .1 .1 .1 .0) (zs .1 .1 .1 .1 .0) (zs .1 .1 .1 .1 .1 .0))))))) (id⊢ 𝓤 _) $ await ! tt $ pick ! (λ r.
+        use1 W (later (some (λ (r : TakenLine). (tokens ⊛ ‵ (D.the-row .own r (u ∷ []))) ⊛ some (λ (zs : Unit {0} × (Unit {0} × (Unit {0} × (List ℕ × (List ℕ × (List ℕ × Unit {0})))))). ‵ (lasts steps.ended κs (d .text, (spot, (p, (x, (y, (z, tt)))))) zs) ⊛ raw (fact 𝓤 (Said r (zs .1 .1 .1 .0) (zs .1 .1 .1 .1 .0) (zs .1 .1 .1 .1 .1 .0))))))) (id⊢ 𝓤 _) $ await ! tt $ pick ! (λ r.
         split ! $ move ! (1 ∷ []) $ pick ! (λ zs. split ! $ move ! (1 ∷ []) $ heard ! (Said r (zs .1 .1 .1 .0) (zs .1 .1 .1 .1 .0) (zs .1 .1 .1 .1 .1 .0)) (λ said.
         fsplit ! $ drop ! $ fsplit ! $ drop ! $ fsplit ! $ drop ! $ fsplit ! $ fsplit ! $ move ! (1 ∷ []) $ feqL ! (λ el. move ! (1 ∷ []) $ fsplit ! $ fsplit ! $ move ! (1 ∷ []) $ feqL ! (λ eh. move ! (1 ∷ []) $ fsplit ! $ fsplit ! $ move ! (1 ∷ []) $ feqL ! (λ ef.
         -- [flat's last; _; highs' last; lows' last; the tokens and the result; Own; _14; …]

@@ -44,15 +44,15 @@ use Rattle.job.specs.Job.{mostBytes}
 use Rattle.job.specs.Inner.Steps.{Bounded, LineTaken}
 use Rattle.job.specs.Inner.Reading.{countsOf}
 use Rattle.job.specs.declared.steps.Progress.{Progress}
-use Rattle.job.specs.declared.steps.Taken.{Taken}
+use Rattle.job.specs.declared.steps.TakenLine.{TakenLine}
 use Rattle.job.specs.declared.Reading.{Reading}
 use Rattle.job.specs.declared.reader.Reader.{Reader}
 use Rattle.model.specs.Shares.{mostUnits}
 use Rattle.job.proofs.Lending.{sliceAt, lends, comes-back}
 use Rattle.job.proofs.steps.Progress as P
 use Rattle.job.proofs.steps.Progress.Laws as P′
-use Rattle.job.proofs.steps.Taken as D
-use Rattle.job.proofs.steps.Taken.Laws as D′
+use Rattle.job.proofs.steps.TakenLine as D
+use Rattle.job.proofs.steps.TakenLine.Laws as D′
 use Rattle.job.proofs.Reading as G
 use Rattle.job.proofs.Reading.Laws as G′
 use Rattle.job.proofs.reader.Reader as T
@@ -252,7 +252,7 @@ module _ {M : Type 1} {𝓤 : URA M} {H : Heap 𝓤} {A : Atoms 𝓤} {K : Type 
   pub takes-line : K → FmC 𝓤 H (W .laws) C → (mem : Memory → SProp 𝓤) (run : Routine → Fun 𝓤) → Triple 𝓤 (C #job·take-line) (Line 𝓤 H A mem run) → (κ : Lft) (q : Share) (x : RefT (List ℕ)) (n : ℕ) → n < 2 ^ 64 → (p : Progress) (is : Is P.the-row p (LL.vals P.the-type P′.the-laws p))
       → (a b c : Borrowed) (ls hs fs : List ℕ) → length ls ≡ a .count → length hs ≡ b .count → length fs ≡ c .count → Asked 𝓤 H A W mem run κ q x n p is a b c ls hs fs
       → ((i j k l m : Item 𝓤) → Opds K W (i ∷ j ∷ k ∷ l ∷ m ∷ Γ) E xs (machine x n ∷ LL.val P.the-type P′.the-laws p ∷ sliceIn a ∷ sliceIn b ∷ sliceIn c ∷ []))
-      → ((r : Taken) → Is D.the-row r (EL.vals D.the-type D′.the-laws r) → (ls′ hs′ fs′ : List ℕ) → length ls′ ≡ length ls → length hs′ ≡ length hs → length fs′ ≡ length fs → LineTaken (now x) p n ls hs fs ls′ hs′ fs′ r
+      → ((r : TakenLine) → Is D.the-row r (EL.vals D.the-type D′.the-laws r) → (ls′ hs′ fs′ : List ℕ) → length ls′ ≡ length ls → length hs′ ≡ length hs → length fs′ ≡ length fs → LineTaken (now x) p n ls hs fs ls′ hs′ fs′ r
       → Seq K W (‵ (Text κ x) ∷ ‵ (flft κ q) ∷ ‵ (Holding 1 a ls′) ∷ ‵ (flft (a .lft) (a .share)) ∷ ‵ (Holding 2 b hs′) ∷ ‵ (flft (b .lft) (b .share)) ∷ ‵ (Holding 3 c fs′) ∷ ‵ (flft (c .lft) (c .share)) ∷ Γ) (lands C Λ E d (EL.val D.the-type D′.the-laws r) rest Q))
       → Seq K W (‵ (Text κ x) ∷ ‵ (flft κ q) ∷ ‵ (Holding 1 a ls) ∷ ‵ (flft (a .lft) (a .share)) ∷ ‵ (Holding 2 b hs) ∷ ‵ (flft (b .lft) (b .share)) ∷ ‵ (Holding 3 c fs) ∷ ‵ (flft (c .lft) (c .share)) ∷ Γ) (runs C Λ E (seq (call #job·take-line xs d) rest) Q)
   takes-line t fm mem run known κ q x n fits p is a b c ls hs fs el eh ef asked os k =
@@ -261,7 +261,7 @@ module _ {M : Type 1} {𝓤 : URA M} {H : Heap 𝓤} {A : Atoms 𝓤} {K : Type 
       -- [the text; the reader; flat, its token and the lender's part; the same of highs; of lows; the text's token]
       move t (11 ∷ 9 ∷ 6 ∷ 3 ∷ 1 ∷ 8 ∷ 5 ∷ 2 ∷ []) $ group t 8 $ use1 W (raw (Line 𝓤 H A mem run .pre (to-line 𝓤 H A W mem run κ q x n p is a b c ls hs fs ν₁ ν₂ ν₃ δ₁ δ₂ δ₃))) (goes-line 𝓤 H A W mem run κ q x n p is a b c ls hs fs ν₁ ν₂ ν₃ δ₁ δ₂ δ₃ asked) $
       calls-at t fm (Line 𝓤 H A mem run) known (to-line 𝓤 H A W mem run κ q x n p is a b c ls hs fs ν₁ ν₂ ν₃ δ₁ δ₂ δ₃) (os _ _ _ _ _) (λ u.
-      use1 W (later (some (λ (r : Taken). ((‵ (flft κ q) ⊛ ‵ (flft (ν₁ ∷ []) fullShare) ⊛ ‵ (flft (ν₂ ∷ []) fullShare) ⊛ ‵ (flft (ν₃ ∷ []) fullShare) ⊛ ‵ ftrue) ⊛ ‵ (D.the-row .own r (u ∷ []))) ⊛ some (λ (zs : Unit {0} × (Unit {0} × (List ℕ × (List ℕ × (List ℕ × Unit {0}))))).
+      use1 W (later (some (λ (r : TakenLine). ((‵ (flft κ q) ⊛ ‵ (flft (ν₁ ∷ []) fullShare) ⊛ ‵ (flft (ν₂ ∷ []) fullShare) ⊛ ‵ (flft (ν₃ ∷ []) fullShare) ⊛ ‵ ftrue) ⊛ ‵ (D.the-row .own r (u ∷ []))) ⊛ some (λ (zs : Unit {0} × (Unit {0} × (List ℕ × (List ℕ × (List ℕ × Unit {0}))))).
       ‵ (lasts take-line.ended (lifetimes 𝓤 H A W mem run κ q x n p is a b c ls hs fs ν₁ ν₂ ν₃ δ₁ δ₂ δ₃) (args 𝓤 H A W mem run κ q x n p is a b c ls hs fs ν₁ ν₂ ν₃ δ₁ δ₂ δ₃) zs) ⊛ raw (fact 𝓤 (LineTaken (now x) p n ls hs fs (zs .1 .1 .0) (zs .1 .1 .1 .0) (zs .1 .1 .1 .1 .0) r)))))) (id⊢ 𝓤 _) $ await t tt $ pick t (λ r.
       split t $ move t (1 ∷ []) $ pick t (λ zs. split t $ move t (1 ∷ []) $ heard t (LineTaken (now x) p n ls hs fs (zs .1 .1 .0) (zs .1 .1 .1 .0) (zs .1 .1 .1 .1 .0) r) (λ said.
       fsplit t $ drop t $ fsplit t $ drop t $ fsplit t $ fsplit t $ move t (1 ∷ []) $ feqL t (λ gl. move t (1 ∷ []) $ fsplit t $ fsplit t $ move t (1 ∷ []) $ feqL t (λ gh. move t (1 ∷ []) $ fsplit t $ fsplit t $ move t (1 ∷ []) $ feqL t (λ gf.

@@ -49,8 +49,8 @@ use Rattle.job.specs.Inner.Steps.{Bounded, LineTaken}
 use Rattle.job.specs.Inner.Reading.{Scanned, countsOf}
 use Rattle.job.specs.Laws.Scanning.{Moment, on-line, scanned-counts, scanned-stop}
 use Rattle.job.specs.declared.steps.Progress.{Progress}
-use Rattle.job.specs.declared.steps.Taken.{Taken}
-use Rattle.job.specs.declared.steps.Taken.the-variants as taken
+use Rattle.job.specs.declared.steps.TakenLine.{TakenLine}
+use Rattle.job.specs.declared.steps.TakenLine.the-variants as taken
 use Rattle.job.specs.declared.Reading.{Reading}
 use Rattle.model.specs.Shares.{mostUnits}
 use Rattle.job.specs.declared.Reading.the-variants as reading
@@ -58,8 +58,8 @@ use Rattle.job.proofs.Releasing.{releases}
 use Rattle.job.proofs.reader.scan_lines.Proof.Calls.{Borrowed, Holding, Text, sliceOf, sliceIn, machine, End, Line, Moved, Counted, asks-end, takes-line, moves, counts}
 use Rattle.job.proofs.steps.Progress as P
 use Rattle.job.proofs.steps.Progress.Laws as P′
-use Rattle.job.proofs.steps.Taken as D
-use Rattle.job.proofs.steps.Taken.Laws as D′
+use Rattle.job.proofs.steps.TakenLine as D
+use Rattle.job.proofs.steps.TakenLine.Laws as D′
 use Rattle.job.proofs.Reading as G
 use Rattle.job.proofs.Reading.Laws as G′
 use Rattle.job.proofs.reader.Reader.Laws as T′
@@ -208,7 +208,7 @@ module _ {M : Type 1} (𝓤 : URA M) (H : Heap 𝓤) (A : Atoms 𝓤) (W : Given
           assigns ! (un ! (load ! (from ! (stop !)) (look ! 30 refl)) tt) (from ! (stop !)) (init ! 26 refl (tt, tt)) $ forget ! 28 refl $ forget ! 30 refl $ k
 
       -- the answer of `take_line` is matched: the reader moves on, or its refusal is returned
-      matched : (t : X) → t .0 .at < length (now x₀) → (r : Taken) → Is D.the-row r (EL.vals D.the-type D′.the-laws r) → (ls hs fs : List ℕ) → length ls ≡ length (t .0 .lows) → length hs ≡ length (t .0 .highs) → length fs ≡ length (t .0 .flat)
+      matched : (t : X) → t .0 .at < length (now x₀) → (r : TakenLine) → Is D.the-row r (EL.vals D.the-type D′.the-laws r) → (ls hs fs : List ℕ) → length ls ≡ length (t .0 .lows) → length hs ≡ length (t .0 .highs) → length fs ≡ length (t .0 .flat)
           → LineTaken (now x₀) (t .0 .progress) (t .0 .at) (t .0 .lows) (t .0 .highs) (t .0 .flat) ls hs fs r
           → Sq W (Cells (t .0 .at) (t .0 .progress) ls hs fs (‵ (froom G′.mir l₀ 0)) (‵ (froom tyBool l₁₂ 0)) (‵ (fat fullShare D′.mir l₁₃ 0 (EL.val D.the-type D′.the-laws r)))) (runs C Λ E the-match (anyQ (Turned t)))
       unfolding afterTurn
