@@ -78,12 +78,12 @@ fn narrow_with(
     }
     build(lows, highs, starts, stops, total, table);
     let turn = narrow_on(lows, highs, table, question, starts, stops);
-    if let Turn::NoPlan(number) = turn {
-        return Turn::NoPlan(number);
-    }
+    let Turn::Narrowed = turn else {
+        return turn;
+    };
     copy(starts, lows);
     copy(stops, highs);
-    Turn::Narrowed
+    turn
 }
 
 // The same with arrays that have room for the group.

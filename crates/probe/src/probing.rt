@@ -57,7 +57,13 @@ pub struct Trial {
 }
 
 // Whether the group with the member pinned to the value has a plan.
-pub fn taken_at(lows: &[u64], highs: &[u64], table: &[u64], question: Question, trial: Trial) -> bool
+pub fn taken_at(
+    lows: &[u64],
+    highs: &[u64],
+    table: &[u64],
+    question: Question,
+    trial: Trial,
+) -> bool
     requires { ⌜ Triable (now lows) (now highs) (now table) (question .total) trial ⌝ }
     ensures { λ r. ⌜ r ≡ taken (now (lows .entry)) (now (highs .entry)) (question .total) (question .limits) (trial .member) (trial .value) ⌝ }
 {

@@ -1,7 +1,6 @@
 -- The laws of settling, a file for each topic.
 pub mod Members
 pub mod Sizes
-pub mod Lengths
 pub mod Writing
 pub mod Parts
 pub mod Inside

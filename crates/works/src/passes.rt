@@ -10,44 +10,21 @@ use model::lists::room;
 ghost use Prim.Native.Nat.{_+_, _≤_};
 ghost use mathlib.Core.Path.{_≡_};
 ghost use lib.ListN.{length};
+ghost use Rattle.model.specs.Known.{refusedBy};
 ghost use Rattle.works.specs.Answers.{answerOf, tableAfter};
 ghost use Rattle.groups.specs.Inner.Flat.{groupsIn};
 ghost use Rattle.works.specs.Inner.Asked.{MemberRoom, Opening};
-ghost use Rattle.works.specs.Inner.Passes.{leftBy};
-ghost use Rattle.works.specs.Settling.{pass, settle};
+ghost use Rattle.works.specs.Settling.{settle};
 ghost use Rattle.works.specs.Tables.{tableOf};
 
-// What a pass answers: each group has had its turn, or the group at a place has no plan.
-pub enum Pass {
-    Through,
-    Stopped { number: u64, place: u64 },
-}
-
-// One pass: each group's turn in job order, up to the first group without a plan.
-fn run_pass(
-    flat: &[u64],
-    groups: u64,
-    lows: &mut [u64],
-    highs: &mut [u64],
-    member_lows: &mut [u64],
-    member_highs: &mut [u64],
-) -> Pass
-    requires { ⌜ Opening (now flat) groups (tableOf (now lows) (now highs)) ⌝ }
-    requires { ⌜ MemberRoom (now «member_lows») (now «member_highs») ⌝ }
-    ensures { λ r. ⌜ leftBy r (tableOf (now (lows .exit)) (now (highs .exit))) ≡ pass (groupsIn groups (now (flat .entry))) (tableOf (now (lows .entry)) (now (highs .entry))) ⌝ }
+// The number that a turn refuses with; 0 where it narrows.
+fn number_of(turn: Turn) -> u64
+    ensures { λ r. ⌜ r ≡ refusedBy turn ⌝ }
 {
-    let mut at: usize = 0;
-    let mut place: u64 = 0;
-    while place < groups {
-        let group = group_at(flat, at);
-        let turn = take_turn(flat, group, lows, highs, member_lows, member_highs);
-        place += 1;
-        if let Turn::NoPlan(number) = turn {
-            return Pass::Stopped { number, place };
-        }
-        at = group.next;
+    match turn {
+        Turn::Narrowed => 0,
+        Turn::NoPlan(number) => number,
     }
-    Pass::Through
 }
 
 // Settles the table; where a group has no plan, the table is left as it then was.
@@ -65,20 +42,31 @@ fn run_passes(
     ensures { λ _. ⌜ tableOf (now (lows .exit)) (now (highs .exit)) ≡ tableAfter (settle (groupsIn groups (now (flat .entry))) (tableOf (now (lows .entry)) (now (highs .entry)))) (tableOf (now (lows .exit)) (now (highs .exit))) ⌝ }
 {
     let mut passes: u64 = 0;
-    loop {
+    let mut place: u64 = 0;
+    let mut number: u64 = 0;
+    'passes: loop {
         passes += 1;
         let before = width_of(lows, highs);
-        let pass = run_pass(flat, groups, lows, highs, member_lows, member_highs);
-        if let Pass::Stopped { number, place } = pass {
-            return Settling::NoPlan {
-                number,
-                place,
-                passes,
+        let mut at: usize = 0;
+        place = 0;
+        while place < groups {
+            let group = group_at(flat, at);
+            let turn = take_turn(flat, group, lows, highs, member_lows, member_highs);
+            place += 1;
+            let Turn::Narrowed = turn else {
+                number = number_of(turn);
+                break 'passes;
             };
+            at = group.next;
         }
         if width_of(lows, highs) == before {
             return Settling::Settled(passes);
         }
+    }
+    Settling::NoPlan {
+        number,
+        place,
+        passes,
     }
 }
 

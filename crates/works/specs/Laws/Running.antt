@@ -15,27 +15,17 @@ use Rattle.groups.specs.Inner.Flat.{groupsIn, storedAt, groupIn}
 use Rattle.groups.specs.Laws.Walk.{Walk, Next, walk-start, walk-end, walk-next}
 use Rattle.groups.specs.declared.Stored.{Stored}
 use Rattle.model.specs.Groups.{Group}
+use Rattle.model.specs.Known.{refusedBy}
 use Rattle.model.specs.declared.Turn.{Turn}
 use Rattle.model.specs.declared.Turn.the-variants.{Narrowed, NoPlan}
 use Rattle.works.specs.Consistency.{SoundOpening}
 use Rattle.works.specs.Inner.Asked.{Turning, Opening}
-use Rattle.works.specs.Inner.Passes.{leftBy}
-use Rattle.works.specs.declared.passes.Pass.{Pass}
-use Rattle.works.specs.declared.passes.Pass.the-variants.{Through, Stopped}
 use Rattle.works.specs.Settling.{Revised, AfterPass, Outcome, revisedBy, revise, passFrom, pass, settleFrom, settle}
 use Rattle.works.specs.Tables.{Table, sameTable, units, width}
 use Rattle.works.specs.Laws.Inside.{same-table, table-same, widths-sums, widths-same}
 use Rattle.works.specs.Endings.{After}
 use Rattle.works.specs.Laws.Passes.{first-group, sound-inside, sound-turn, pass-after}
 use Rattle.works.specs.Laws.Turns.{turn-inside}
-
--- what a pass leaves, from its answer
-module _ {answer : Pass} (left : Table) {whole : AfterPass} (leaves : leftBy answer left ≡ whole) where
-  pub pass-through : answer ≡ Through → whole ≡ AfterPass.passed left
-  pass-through is = sym leaves ∙ ap (λ (a : Pass). leftBy a left) is
-
-  pub pass-stopped : {number place : ℕ} → answer ≡ Stopped number place → whole ≡ AfterPass.stopped number place
-  pass-stopped is = sym leaves ∙ ap (λ (a : Pass). leftBy a left) is
 
 module _ (flat : List ℕ) (count : ℕ) where
   abbrev groups : List Group
@@ -65,6 +55,11 @@ module _ (flat : List ℕ) (count : ℕ) where
   unfolding passFrom
   passing-end passing end = sym (passing .rest) ∙ rw (walk-end flat count (passing .walk) end)
 
+  -- the table's ranges stay those of one group
+  pub passing-sound : {start table : Table} {at place : ℕ} → PassUnderWay start table at place → units start ≤ mostUnits
+      → one.SoundRanges (table .lows) (table .highs)
+  passing-sound passing few = laws.sound (passing .sound .valid) (omega (arith, passing .sameUnits))
+
   -- a group's turn comes
   module _ {start table : Table} {at place : ℕ} (passing : PassUnderWay start table at place) (some : place < count)
       {stored : Stored} (read : stored ≡ storedAt flat at) where
@@ -89,11 +84,11 @@ module _ (flat : List ℕ) (count : ℕ) where
     -- the turn's answer
     module _ (turn : Turn) (after : Table) (answer : revisedBy turn after ≡ revise table group) where
       -- where the group has no plan, the pass stops
-      pub next-stops : {number : ℕ} → turn ≡ NoPlan number → pass groups start ≡ AfterPass.stopped number (place + 1)
+      pub next-stops : {number refusal : ℕ} → turn ≡ NoPlan refusal → number ≡ refusedBy turn → pass groups start ≡ AfterPass.stopped number (place + 1)
       unfolding passFrom
-      next-stops {number} refuses =
-          let stops : revise table group ≡ Revised.noPlan number = rw (← answer, refuses) in
-          sym rest-next ∙ rw (stops, passFrom, add-one place)
+      next-stops refuses is-number =
+          let stops : revise table group ≡ Revised.noPlan (refusedBy turn) = rw (← answer, refuses) in
+          sym rest-next ∙ rw (stops, passFrom, ← is-number, add-one place)
 
       -- else it goes on with the table that the turn leaves
       pub next-passes : turn ≡ Narrowed → PassUnderWay start after (stored .next) (place + 1)
@@ -151,10 +146,6 @@ module _ (flat : List ℕ) (count : ℕ) where
     module _ {next : Table} (passes-on : pass groups table ≡ AfterPass.passed next) where
       after : After groups next table
       after = pass-after 1 groups table next (unsettled .ready .sound) passes-on
-
-      -- the table's ranges stay those of one group
-      pub passed-sound : one.SoundRanges (next .lows) (next .highs)
-      passed-sound = laws.sound (after .valid) (omega (arith, after .inside .sameLows, unsettled .ready .few))
 
       -- a pass that leaves the sum of widths changes nothing: the table is settled
       pub pass-settled : width next ≡ width table → settle groups opening ≡ Outcome.settled next (passes + 1)

@@ -52,8 +52,11 @@ narrow-on-requires c κs =
     let room = start e .pre .1 in
     (shared e, (record { sound = probe-sound (shared e); held = built .build .ensures }, (omega (arith, room .sizeStarts), omega (arith, room .sizeStops))))
 
-enum-known-turn : tie.Need-enum-known-turn
-enum-known-turn c = search needs
+enum-told : tie.Need-enum-told
+enum-told c = search needs
+
+enum-told-2 : tie.Need-enum-told-2
+enum-told-2 c = search needs
 
 same-length-3 : tie.Need-same-length-3
 same-length-3 c = search needs
@@ -72,12 +75,8 @@ same-length-7 c = search needs
 
 returns-2 : tie.Need-returns-2
 returns-2 c =
-    let told = c .before .turn .given .1 in
-    let on = c .before .before .before .before .before .before .before in
-    record { answer = sym told ∙ on .narrow-on .ensures .0; lowsAre = refl; highsAre = refl }
-
-enum-told : tie.Need-enum-told
-enum-told c = search needs
+    let on = c .before .before .before .before .before .before in
+    rw (c .enum-told2 .given .1) (record { answer = sym (c .enum-told2 .given .1) ∙ on .narrow-on .ensures .0; lowsAre = refl; highsAre = refl })
 
 -- the group is narrowed, in starts and stops
 module _ (c : tie.After-enum-told) where
@@ -123,11 +122,12 @@ returns-3 c =
     let last = c .before .before in
     let first = last .before .before .before .before .before in
     let e = first .before .before .before in
-    record {
+    rw (e .enum-told .given .1)
+    (record {
       answer = sym (e .enum-told .given .1) ∙ on e .narrow-on .ensures .0;
       lowsAre = first .copy .ensures ∙ in-starts e;
       highsAre = last .copy2 .ensures ∙ in-stops e;
-    }
+    })
 
 pub narrow-with-spec : {M : Type 1} → statement M
 narrow-with-spec =
@@ -139,14 +139,14 @@ narrow-with-spec =
     returns
     build-requires
     narrow-on-requires
-    enum-known-turn
+    enum-told
+    enum-told-2
     same-length-3
     same-length-4
     same-length-5
     same-length-6
     same-length-7
     returns-2
-    enum-told
     copy-requires
     copy-requires-2
     same-length-8
