@@ -1,9 +1,9 @@
 // The ends of a member's range: how far from its share plans give it values.
 use model::Question;
 use model::numbers::apart;
-use probe::pins::into_reach;
-use probe::pins::last_within;
-use probe::pins::value_at;
+use probe::pinned::into_reach;
+use probe::pinned::last_within;
+use probe::pinned::value_at;
 use probe::probing::Trial;
 use probe::probing::taken_at;
 use probe::rows::read_row;

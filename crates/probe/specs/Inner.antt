@@ -1,7 +1,7 @@
 -- What only inner contracts use, a file for each topic.
 pub mod Figures
 pub mod Orders
-pub mod Pins
+pub mod Pinned
 pub mod Probes
 pub mod Rows
 pub mod Spans

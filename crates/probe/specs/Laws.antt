@@ -2,7 +2,7 @@
 pub mod Figures
 pub mod Fills
 pub mod Orders
-pub mod Pins
+pub mod Pinned
 pub mod Probes
 pub mod Reaching
 pub mod Rows

@@ -1,5 +1,5 @@
 // The sums of a pinned group's shares at the level reached, from a row of the table.
-use crate::pins::Reach;
+use crate::pinned::Reach;
 use crate::rows::Row;
 use crate::table::from_mean;
 use crate::table::square;

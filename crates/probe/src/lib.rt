@@ -2,7 +2,7 @@
 pub mod build;
 pub mod figures;
 pub mod order;
-pub mod pins;
+pub mod pinned;
 pub mod probing;
 pub mod rows;
 pub mod table;

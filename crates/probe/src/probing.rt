@@ -1,9 +1,9 @@
 // Probes of pinned values on the breakpoint table of a group.
 use crate::figures::pinned_deviation;
 use crate::figures::pinned_squares;
-use crate::pins::last_within;
-use crate::pins::pinned_total;
-use crate::pins::reach_from;
+use crate::pinned::last_within;
+use crate::pinned::pinned_total;
+use crate::pinned::reach_from;
 use crate::rows::read_row;
 use model::Figures;
 use model::Question;

@@ -1,3 +1,3 @@
 -- What only inner contracts use, a file for each topic.
 pub mod Printed
-pub mod Ready
+pub mod Asked

@@ -1,7 +1,7 @@
 pub mod Lines
 pub mod Reports
 pub mod Calls
-pub mod Ready
+pub mod Reportable
 pub mod Evenness
 pub mod Promises
 pub mod Places

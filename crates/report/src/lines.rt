@@ -9,7 +9,7 @@ ghost use mathlib.Core.List.{flatten, _++_};
 ghost use mathlib.Core.Path.{_≡_};
 ghost use lib.ListN.{length, drop};
 ghost use Rattle.print.specs.Inner.Written.{Room, Wrote};
-ghost use Rattle.report.specs.Inner.Ready.{lineOfLevelling};
+ghost use Rattle.report.specs.Inner.Asked.{lineOfLevelling};
 ghost use Rattle.report.specs.Lines.{settledLine, unitLine, groupLine, refusalLine};
 ghost use Rattle.report.specs.Reports.{unitLines};
 

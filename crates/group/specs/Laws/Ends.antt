@@ -17,8 +17,8 @@ use Rattle.model.specs.Laws.Pinned.{plan-taken}
 use Rattle.model.specs.Laws.Plans.{found-plan}
 use Rattle.model.specs.Laws.Tests.{clash}
 use Rattle.model.specs.declared.Limits.{Limits}
-use Rattle.probe.specs.Inner.Pins.{Reached}
-use Rattle.probe.specs.Laws.Pins.{reached-adds, reached-figures}
+use Rattle.probe.specs.Inner.Pinned.{Reached}
+use Rattle.probe.specs.Laws.Pinned.{reached-adds, reached-figures}
 use Rattle.group.specs.Inner.Tabled.{Tabled, HasPlan}
 use Rattle.group.specs.Inner.Edges.{Edge, Reaches, Approach}
 use Rattle.group.specs.Laws.Edges.{Planned}

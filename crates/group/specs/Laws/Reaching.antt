@@ -10,7 +10,7 @@ use Rattle.model.specs.Shares.{greatestShare}
 use Rattle.model.specs.Plans.{taken}
 use Rattle.model.specs.declared.Limits.{Limits}
 use Rattle.probe.specs.Inner.Rows.{rowAt}
-use Rattle.probe.specs.Laws.Pins.{pinned}
+use Rattle.probe.specs.Laws.Pinned.{pinned}
 use Rattle.probe.specs.Inner.Probes.{pinnedTotal, Probeable, InReach, IntoReach}
 use Rattle.probe.specs.Laws.Probes.{probeable}
 use Rattle.probe.specs.Laws.Reaching.{short-fails, long-fails, taken-reach}

@@ -2,7 +2,7 @@
 use Prim.Native.Nat.{ℕ, suc, _+_, _*_, _≤_}
 use mathlib.Core.Path.{_≡_}
 use Rattle.model.specs.Shares.{greatestShare, mostUnits}
-use Rattle.probe.specs.declared.pins.Reach.{Reach}
+use Rattle.probe.specs.declared.pinned.Reach.{Reach}
 use Rattle.probe.specs.Inner.Tables.{greatestPart}
 
 -- a row's sum with v's part in place of the member's own, and the parts that moved from the row's level to the one reached

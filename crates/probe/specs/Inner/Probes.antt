@@ -5,11 +5,11 @@ use mathlib.Core.Path.{_≡_}
 use lib.ListN.{length, getD}
 use Rattle.model.specs.Levels.{clamp, growth}
 use Rattle.probe.specs.declared.rows.Row.{Row}
-use Rattle.probe.specs.declared.pins.Reach.{Reach}
+use Rattle.probe.specs.declared.pinned.Reach.{Reach}
 use Rattle.probe.specs.declared.probing.Levelled.{Levelled}
 use Rattle.probe.specs.Inner.Rows.{rowAt}
 use Rattle.probe.specs.Inner.Tables.{greatestPart}
-use Rattle.probe.specs.Inner.Pins.{Reached}
+use Rattle.probe.specs.Inner.Pinned.{Reached}
 
 -- T at a row's level of the group with v in place of a member's own
 unfoldable pub pinnedTotal : Row → ℕ → ℕ → ℕ → ℕ

@@ -9,7 +9,7 @@ use Rattle.model.specs.Levels.{levelled}
 use Rattle.model.specs.declared.Figures.{Figures}
 use Rattle.probe.specs.declared.probing.Trial.{Trial}
 use Rattle.probe.specs.Inner.Tables.{SoundWithTotal, Breakpoints}
-use Rattle.probe.specs.Inner.Pins.{Pin}
+use Rattle.probe.specs.Inner.Pinned.{Pin}
 use Rattle.probe.specs.Inner.Probes.{RowOf, MadeUp}
 
 -- some ranges have v in place of what a member with this low and high has

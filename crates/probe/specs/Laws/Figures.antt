@@ -6,11 +6,11 @@ use native.Mathlib.Nat.{mul-le-mul}
 use native.Mathlib.Omega.{arith}
 use Rattle.model.specs.Shares.{greatestShare, sumOf, mostUnits}
 use Rattle.model.specs.Levels.{clamp, clamped, topped}
-use Rattle.probe.specs.declared.pins.Reach.{Reach}
+use Rattle.probe.specs.declared.pinned.Reach.{Reach}
 use Rattle.probe.specs.Inner.Tables.{SoundWithTotal}
 use Rattle.probe.specs.Laws.Tables.{Small, clamped-small}
-use Rattle.probe.specs.Inner.Pins.{Pin, Reached}
-use Rattle.probe.specs.Laws.Pins.{reached-sum}
+use Rattle.probe.specs.Inner.Pinned.{Pin, Reached}
+use Rattle.probe.specs.Laws.Pinned.{reached-sum}
 use Rattle.probe.specs.Inner.Figures.{Moves, Summable, Parts}
 
 module _ {lows highs lows′ highs′ : List ℕ} {total low high v mark : ℕ} (pin : Pin lows highs low high v lows′ highs′)

@@ -9,13 +9,13 @@ use Rattle.model.specs.Shares.{mostUnits}
 use Rattle.model.specs.Levels.{clamp, totalAt, growth}
 use Rattle.model.specs.Laws.Lists.{sum-sumOf}
 use Rattle.probe.specs.declared.rows.Row.{Row}
-use Rattle.probe.specs.declared.pins.Reach.{Reach}
+use Rattle.probe.specs.declared.pinned.Reach.{Reach}
 use Rattle.probe.specs.Inner.Rows.{rowAt}
 use Rattle.probe.specs.Inner.Spans.{Span}
 use Rattle.probe.specs.Inner.Tables.{SoundWithTotal, Breakpoints, itself}
 use Rattle.probe.specs.Laws.Tables.{small-itself, clamped-small}
-use Rattle.probe.specs.Inner.Pins.{Pin, Reached}
-use Rattle.probe.specs.Laws.Pins.{pinned-span, grows, reached-mark, reached-between}
+use Rattle.probe.specs.Inner.Pinned.{Pin, Reached}
+use Rattle.probe.specs.Laws.Pinned.{pinned-span, grows, reached-mark, reached-between}
 use Rattle.probe.specs.Inner.Probes.{pinnedTotal, Pinnable, Probeable, LastWithin, Divided}
 
 module _ {lows highs table lows′ highs′ : List ℕ} {total low high v : ℕ} (sound : SoundWithTotal lows highs total) (held : Breakpoints lows highs total table)

@@ -15,7 +15,7 @@ use Rattle.model.specs.declared.Limits.{Limits}
 use Rattle.probe.specs.declared.rows.Row.{Row}
 use Rattle.probe.specs.Inner.Rows.{rowAt}
 use Rattle.probe.specs.Inner.Tables.{SoundWithTotal, Breakpoints}
-use Rattle.probe.specs.Laws.Pins.{pinned, unpinned}
+use Rattle.probe.specs.Laws.Pinned.{pinned, unpinned}
 use Rattle.probe.specs.Inner.Probes.{pinnedTotal, LastWithin, InReach}
 use Rattle.probe.specs.Laws.Probes.{pinnable, pinned-total}
 use Rattle.probe.specs.Laws.Verdicts.{least-total, greatest-total, too-much, too-little}

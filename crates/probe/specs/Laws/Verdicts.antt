@@ -23,8 +23,8 @@ use Rattle.probe.specs.declared.rows.Row.{Row}
 use Rattle.probe.specs.Inner.Rows.{rowAt}
 use Rattle.probe.specs.Inner.Tables.{SoundWithTotal, Breakpoints, greatestPart, itself, fromMean, square}
 use Rattle.probe.specs.Laws.Tables.{Small, small-square}
-use Rattle.probe.specs.Inner.Pins.{Pin, Reached}
-use Rattle.probe.specs.Laws.Pins.{pinned-span, reached-adds, reached-figures}
+use Rattle.probe.specs.Inner.Pinned.{Pin, Reached}
+use Rattle.probe.specs.Laws.Pinned.{pinned-span, reached-adds, reached-figures}
 use Rattle.probe.specs.Inner.Probes.{pinnedTotal}
 use Rattle.probe.specs.Laws.Probes.{pinned-total}
 

@@ -23,7 +23,7 @@ use Rattle.works.specs.Tables.{Table, lowsOf, highsOf}
 use Rattle.print.specs.Items.{form}
 use Rattle.print.specs.Laws.Lengths.{item-length, items-more, items-none, items-length, form-length, line-length}
 use Rattle.report.specs.Lines.{settledLine, unitLine, groupLine, refusalLine}
-use Rattle.report.specs.Ready.{AllLevelable, Reportable}
+use Rattle.report.specs.Reportable.{AllLevelable, Reportable}
 use Rattle.report.specs.Reports.{unitLines, levelledLine, groupLines, reportOf}
 
 -- a refusal's line, with numbers of any size that the code holds

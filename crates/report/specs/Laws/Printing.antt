@@ -23,8 +23,8 @@ use Rattle.print.specs.Inner.Written.{Wrote, Room}
 use Rattle.works.specs.Laws.Members.{gather-length}
 use Rattle.groups.specs.Memberships.{size}
 use Rattle.works.specs.Tables.{Table, lowsOf, highsOf}
-use Rattle.report.specs.Ready.{Levelable, AllLevelable}
-use Rattle.report.specs.Inner.Ready.{Printable, LevelledIn, lineOfLevelling}
+use Rattle.report.specs.Reportable.{Levelable, AllLevelable}
+use Rattle.report.specs.Inner.Asked.{Printable, LevelledIn, lineOfLevelling}
 use Rattle.report.specs.Reports.{levelledLine, lineOf, groupLines}
 
 module _ {table : Table} {group : Group} (levelable : Levelable table group) where

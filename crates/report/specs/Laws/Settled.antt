@@ -30,8 +30,8 @@ use Rattle.works.specs.Tables.{Table, tableOf, units, lowsOf, highsOf}
 use Rattle.works.specs.declared.Settling.{Settling}
 use Rattle.works.specs.declared.Settling.the-variants as works
 use Rattle.report.specs.Laws.Evenness.{levelled-evenest}
-use Rattle.report.specs.Ready.{Levelable, Reportable}
-use Rattle.report.specs.Inner.Ready.{WithinLimits, Answerable}
+use Rattle.report.specs.Reportable.{Levelable, Reportable}
+use Rattle.report.specs.Inner.Asked.{WithinLimits, Answerable}
 use Rattle.model.specs.Shares.{mostUnits}
 
 -- a group that has a plan in the table can be levelled there

@@ -22,7 +22,7 @@ use Rattle.works.specs.Tables.{tableOf}
 use Rattle.works.specs.declared.Settling.{Settling}
 use Rattle.works.specs.declared.Settling.the-variants as works
 use Rattle.report.specs.Calls.{reported, reportBy, reportSettled, reportText}
-use Rattle.report.specs.Inner.Ready.{WithinLimits}
+use Rattle.report.specs.Inner.Asked.{WithinLimits}
 use Rattle.report.specs.Reports.{reportOf}
 use Rattle.model.specs.Refusals.{refusal}
 use Rattle.report.specs.declared.Reporting.the-variants.{Written, Refused}

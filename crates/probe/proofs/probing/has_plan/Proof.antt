@@ -1,7 +1,7 @@
 -- A member with range 0 to 0, pinned to 0, changes no sum: the group itself. Assumes nothing.
 use borrow.Author.Needs.{needs}
 use mathlib.Core.Path.{_∙_}
-use Rattle.probe.specs.Laws.Pins.{unpinned}
+use Rattle.probe.specs.Laws.Pinned.{unpinned}
 use Rattle.probe.specs.Laws.Verdicts.{decided}
 use Rattle.probe.proofs.probing.has_plan.Statement.{statement}
 use Rattle.probe.proofs.probing.has_plan.Tie as tie

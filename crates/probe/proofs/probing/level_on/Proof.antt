@@ -4,8 +4,8 @@ use native.Mathlib.Omega.{arith}
 use mathlib.Core.List.{List}
 use Prim.Native.Nat.{ℕ, _*_}
 use lib.ListN.{length}
-use Rattle.probe.specs.Inner.Pins.{Pin}
-use Rattle.probe.specs.Laws.Pins.{unpinned}
+use Rattle.probe.specs.Inner.Pinned.{Pin}
+use Rattle.probe.specs.Laws.Pinned.{unpinned}
 use Rattle.probe.specs.Laws.Probes.{probeable, pinnable, growing, reached}
 use Rattle.probe.proofs.probing.level_on.Statement.{statement}
 use Rattle.probe.proofs.probing.level_on.Tie as tie

@@ -8,11 +8,11 @@ use lib.ListN.{length}
 use Rattle.model.specs.Shares.{sumOf}
 use Rattle.model.specs.Levels.{clamp, clamped, topped}
 use Rattle.probe.specs.declared.rows.Row.{Row}
-use Rattle.probe.specs.declared.pins.Reach.{Reach}
+use Rattle.probe.specs.declared.pinned.Reach.{Reach}
 use Rattle.probe.specs.Inner.Rows.{rowAt}
 use Rattle.probe.specs.Inner.Tables.{SoundWithTotal, Sums, Breakpoints, fromMean, square}
 use Rattle.probe.specs.Laws.Tables.{Small, small-mean, small-square}
-use Rattle.probe.specs.Inner.Pins.{Pin, Reached}
+use Rattle.probe.specs.Inner.Pinned.{Pin, Reached}
 use Rattle.probe.specs.Inner.Probes.{pinnedTotal, LastWithin, Divided}
 use Rattle.probe.specs.Laws.Probes.{pinnable, growing, reached, divided-few}
 use Rattle.probe.specs.Inner.Figures.{Summable}

@@ -4,8 +4,8 @@ use mathlib.Core.List.{List}
 use mathlib.Core.Path.{_∙_}
 use Prim.Native.Nat.{ℕ}
 use lib.ListN.{getD, set}
-use Rattle.probe.specs.Inner.Pins.{Pin}
-use Rattle.probe.specs.Laws.Pins.{pinned}
+use Rattle.probe.specs.Inner.Pinned.{Pin}
+use Rattle.probe.specs.Laws.Pinned.{pinned}
 use Rattle.probe.specs.Laws.Verdicts.{decided}
 use Rattle.probe.proofs.probing.taken_at.Statement.{statement}
 use Rattle.probe.proofs.probing.taken_at.Tie as tie

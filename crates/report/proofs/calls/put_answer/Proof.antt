@@ -3,7 +3,7 @@ use borrow.Author.Needs.{needs}
 use mathlib.Core.Path.{sym}
 use lib.Seq.{length-take-le}
 use Rattle.groups.specs.Inner.Flat.{groupsIn}
-use Rattle.report.specs.Inner.Ready.{FrontReportable}
+use Rattle.report.specs.Inner.Asked.{FrontReportable}
 use Rattle.report.specs.Laws.Texts.{answer-written}
 use Rattle.report.proofs.calls.put_answer.Statement.{statement}
 use Rattle.report.proofs.calls.put_answer.Tie as tie

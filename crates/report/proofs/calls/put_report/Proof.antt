@@ -14,7 +14,7 @@ use Rattle.groups.specs.Inner.Flat.{groupsIn}
 use Rattle.works.specs.Tables.{Table, tableOf}
 use Rattle.report.specs.Laws.Lengths.{report-fits}
 use Rattle.report.specs.Lines.{settledLine}
-use Rattle.report.specs.Ready.{Reportable}
+use Rattle.report.specs.Reportable.{Reportable}
 use Rattle.report.specs.Reports.{unitLines, groupLines, reportOf}
 use Rattle.report.proofs.calls.put_report.Statement.{statement}
 use Rattle.report.proofs.calls.put_report.Tie as tie

@@ -13,8 +13,8 @@ use Rattle.groups.specs.Memberships.{size}
 use Rattle.model.specs.Shares.{mostUnits}
 use Rattle.print.specs.Laws.Written.{room-next, keeps-length}
 use Rattle.works.specs.Tables.{Table, tableOf}
-use Rattle.report.specs.Ready.{Levelable}
-use Rattle.report.specs.Inner.Ready.{lineOfLevelling}
+use Rattle.report.specs.Reportable.{Levelable}
+use Rattle.report.specs.Inner.Asked.{lineOfLevelling}
 use Rattle.report.specs.Laws.Printing.{Printing, printing-start, printing-end, coming, next-levelable, next-rest, next-printing, count-few, levelled-line}
 use Rattle.report.specs.Reports.{lineOf}
 use Rattle.report.proofs.group_lines.put_group_lines.Statement.{statement}

@@ -6,8 +6,8 @@ use Prim.Native.Nat.{ℕ, _+_, _-_, _≤_}
 use Rattle.probe.specs.declared.rows.Row.{Row}
 use Rattle.probe.specs.Inner.Rows.{rowAt}
 use Rattle.probe.specs.Inner.Probes.{pinnedTotal}
-use Rattle.probe.proofs.pins.into_reach.Statement.{statement}
-use Rattle.probe.proofs.pins.into_reach.Tie as tie
+use Rattle.probe.proofs.pinned.into_reach.Statement.{statement}
+use Rattle.probe.proofs.pinned.into_reach.Tie as tie
 
 read-row-requires : tie.Need-read-row-requires
 read-row-requires c κs = search needs

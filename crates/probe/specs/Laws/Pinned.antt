@@ -19,7 +19,7 @@ use Rattle.model.specs.Transfers.{SchurConvex}
 use Rattle.model.specs.Laws.Transfer.{deviation-schur, spread-schur}
 use Rattle.probe.specs.Laws.Sums.{between-sum, pinned-sum}
 use Rattle.probe.specs.Inner.Spans.{Span}
-use Rattle.probe.specs.Inner.Pins.{Pin, Reached}
+use Rattle.probe.specs.Inner.Pinned.{Pin, Reached}
 
 -- the group with member i pinned to v
 pub pinned : {lows highs : List ℕ} → Ranges lows highs → (i v : ℕ) → i < length lows → v ≤ greatestShare

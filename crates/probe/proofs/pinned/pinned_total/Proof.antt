@@ -1,8 +1,8 @@
 -- T with the value in place of the member's own part. Assumes nothing.
 use borrow.Author.Needs.{needs}
 use Rattle.probe.specs.Inner.Probes.{pinnedTotal}
-use Rattle.probe.proofs.pins.pinned_total.Statement.{statement}
-use Rattle.probe.proofs.pins.pinned_total.Tie as tie
+use Rattle.probe.proofs.pinned.pinned_total.Statement.{statement}
+use Rattle.probe.proofs.pinned.pinned_total.Tie as tie
 
 add-result : tie.Need-add-result
 add-result c = search needs

@@ -2,8 +2,8 @@
 use borrow.Author.Needs.{needs}
 use native.Mathlib.Omega.{arith}
 use Rattle.probe.specs.Inner.Probes.{pinnedTotal}
-use Rattle.probe.proofs.pins.value_at.Statement.{statement}
-use Rattle.probe.proofs.pins.value_at.Tie as tie
+use Rattle.probe.proofs.pinned.value_at.Statement.{statement}
+use Rattle.probe.proofs.pinned.value_at.Tie as tie
 
 clamp-requires : tie.Need-clamp-requires
 clamp-requires c κs = search needs

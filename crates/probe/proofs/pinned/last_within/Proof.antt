@@ -6,8 +6,8 @@ use mathlib.Core.Path.{_≡_}
 use Prim.Native.Nat.{ℕ, suc, _+_, _-_, _*_, _≤_, _<_}
 use Rattle.probe.specs.Inner.Rows.{rowAt}
 use Rattle.probe.specs.Inner.Probes.{pinnedTotal}
-use Rattle.probe.proofs.pins.last_within.Statement.{statement}
-use Rattle.probe.proofs.pins.last_within.Tie as tie
+use Rattle.probe.proofs.pinned.last_within.Statement.{statement}
+use Rattle.probe.proofs.pinned.last_within.Tie as tie
 
 -- the last row is from k to below top
 record Between (table : List ℕ) (last low high v total k top : ℕ) : Type 0 where

@@ -15,7 +15,7 @@ use Rattle.works.specs.Tables.{Table, tableOf, lowsOf, highsOf}
 use Rattle.works.specs.declared.Settling.{Settling}
 use Rattle.works.specs.declared.Settling.the-variants.{Settled}
 use Rattle.report.specs.Lines.{groupLine}
-use Rattle.report.specs.Ready.{AllLevelable, Reportable}
+use Rattle.report.specs.Reportable.{AllLevelable, Reportable}
 
 -- a flat list holds groups whole that can be levelled in the table
 pub record Printable (flat : List ℕ) (count : ℕ) (table : Table) : Type 0 where

@@ -4,8 +4,8 @@ use native.Mathlib.Omega.{arith}
 use native.Mathlib.Nat.{div-add-mod, mod-lt, div-le-self}
 use mathlib.Core.Path.{refl}
 use Prim.Native.Nat.{_+_, _-_, _<_}
-use Rattle.probe.proofs.pins.reach_from.Statement.{statement}
-use Rattle.probe.proofs.pins.reach_from.Tie as tie
+use Rattle.probe.proofs.pinned.reach_from.Statement.{statement}
+use Rattle.probe.proofs.pinned.reach_from.Tie as tie
 
 returns : tie.Need-returns
 returns c = record { none = λ e. (refl, refl, refl); some = λ h. absurd (omega arith) }
