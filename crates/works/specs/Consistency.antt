@@ -1,4 +1,4 @@
--- SoundOpening jobs, and tables at rest. Assumes nothing.
+-- Sound jobs, and tables at rest. Assumes nothing.
 use Prim.Native.Nat.{ℕ, _≤_, _<_}
 use mathlib.Core.List.{List, List·Memᴰ}
 use mathlib.Core.Path.{_≡_}
