@@ -72,17 +72,25 @@ unfoldable pub printMembers : List ℕ → List ℕ
 printMembers [] = []
 printMembers (m ∷ ms) = space ++ (printNumber m ++ printMembers ms)
 
+-- a unit line as it is written: low, high
+abbrev pub printUnit : ℕ → ℕ → List ℕ
+printUnit low high = unitOpening ++ (printNumber low ++ (space ++ (printNumber high ++ unitEnding)))
+
+-- a group line as it is written: total, limits, unit numbers
+abbrev pub printGroup : ℕ → Limits → List ℕ → List ℕ
+printGroup total limits numbers =
+    groupOpening
+    ++ (printNumber total
+    ++ (deviationOpening
+    ++ (printLimit (limits .deviation)
+    ++ (spreadOpening
+    ++ (printLimit (limits .spread)
+    ++ (membersOpening ++ (printMembers numbers ++ groupEnding)))))))
+
 -- a line as it is written: the form of 01
 unfoldable pub printLine : Line → List ℕ
-printLine (unit l) = unitOpening ++ (printNumber (l .low) ++ (space ++ (printNumber (l .high) ++ unitEnding)))
-printLine (group g) =
-    groupOpening
-    ++ (printNumber (g .total)
-    ++ (deviationOpening
-    ++ (printLimit (g .limits .deviation)
-    ++ (spreadOpening
-    ++ (printLimit (g .limits .spread)
-    ++ (membersOpening ++ (printMembers (g .first ∷ g .others) ++ groupEnding)))))))
+printLine (unit l) = printUnit (l .low) (l .high)
+printLine (group g) = printGroup (g .total) (g .limits) (g .first ∷ g .others)
 
 -- a word and the number after it, held by a function of its value: the code holds numbers above every limit alike
 unfoldable pub numberAs : (ℕ → ℕ) → List ℕ → List ℕ → Parsed ℕ

@@ -30,7 +30,7 @@ fn has_room(units: usize, lows: usize, highs: usize, scratch: usize) -> bool
 }
 
 // The first refusal ahead of settling that the table and the scratch cause.
-fn check_table(units: usize, lows: &[u64], highs: &[u64], scratch: usize) -> Check
+pub fn check_table(units: usize, lows: &[u64], highs: &[u64], scratch: usize) -> Check
     requires { ⌜ units ≤ mostUnits ⌝ }
     ensures { λ r. ⌜ r ≡ checkTable units (now (lows .entry)) (now (highs .entry)) scratch ⌝ }
 {

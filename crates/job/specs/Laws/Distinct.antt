@@ -1,17 +1,17 @@
 -- Numbers are distinct, by marks: each is marked when it is met, and none is met marked. Assumes nothing.
 use Prim.Native.Nat.{ℕ, zero, suc, _+_, _-_, _≤_, _<_}
-use mathlib.Core.Bool.{Bool, true, not, _&&_}
+use mathlib.Core.Bool.{Bool, true, false, not, _&&_, _||_}
 use mathlib.Core.List.{List, [], _∷_, map}
 use mathlib.Core.Path.{_≡_, refl, sym, _∙_}
 use native.Mathlib.Nat.{le-of-suc-le-suc}
 use native.Mathlib.Omega.{arith}
 use native.Mathlib.Decide.{ℕ-discrete}
-use borrow.Author.Tests.{eq-eqb, ne-eqb, leb-true, not-true}
+use borrow.Author.Tests.{eq-eqb, ne-eqb, eqb-true, leb-true, not-true}
 use lib.Dec.{eqb, leb}
 use lib.ListN.{length, getD, set, drop, replicate, length-set, length-replicate, getD-replicate}
 use native.Mathlib.Numerals.{add-one}
 use lib.Seq.{getD-set-same, getD-set-other, drop-cons}
-use Rattle.model.specs.Laws.Tests.{both-left, both-right, clash, either-right, and-exchanged, and-regrouped}
+use Rattle.model.specs.Laws.Tests.{both, both-left, both-right, clash, either-right, and-exchanged, and-regrouped}
 use Rattle.job.specs.Job.{named, allNamed, contains, distinct, memberOf}
 use Rattle.job.specs.Inner.Below.{AllBelow}
 use Rattle.job.specs.Inner.Distinct.{freshBy}
@@ -113,3 +113,28 @@ distinct-at (x ∷ xs) held (suc j) zero p q e =
     absurd (clash (found-at x xs j (le-of-suc-le-suc p) (sym e)) (not-true (contains x xs) (both-left _ _ held)))
 distinct-at (x ∷ xs) held (suc j) (suc k) p q e =
     omega (arith, distinct-at xs (both-right (not (contains x xs)) _ held) j k (le-of-suc-le-suc p) (le-of-suc-le-suc q) e)
+
+-- a number that is found stands at some place
+place-of : (x : ℕ) (xs : List ℕ) → contains x xs ≡ true → (k : ℕ) × (k < length xs) × (x ≡ getD xs k 0)
+unfolding contains
+place-of x [] found = absurd (let z : _≡_ {A = ℕ} 0 1 = cc in omega arith)
+place-of x (y ∷ ys) found = by-test (eqb x y) refl found (place-of x ys)
+  where
+    by-test : (t : Bool) → eqb x y ≡ t → t || contains x ys ≡ true → (contains x ys ≡ true → (k : ℕ) × (k < length ys) × (x ≡ getD ys k 0))
+        → (k : ℕ) × (k < length (y ∷ ys)) × (x ≡ getD (y ∷ ys) k 0)
+    by-test true same found later = (0, omega arith, eqb-true x y same)
+    by-test false same found later = let (k, below, is) = later found in (suc k, omega arith, is)
+
+-- and numbers of which no two places have the same are distinct
+pub different-distinct : (xs : List ℕ) → ((j k : ℕ) → j < length xs → k < length xs → getD xs j 0 ≡ getD xs k 0 → j ≡ k) → distinct xs ≡ true
+unfolding distinct
+different-distinct [] different = refl
+different-distinct (x ∷ xs) different =
+    both (by-test (contains x xs) refl)
+    (different-distinct xs (λ j k p q same. omega (arith, different (suc j) (suc k) (omega arith) (omega arith) same)))
+  where
+    by-test : (t : Bool) → contains x xs ≡ t → not t ≡ true
+    by-test false missing = refl
+    by-test true found =
+        let (k, below, is) = place-of x xs found in
+        absurd (let clash : 0 ≡ suc k = different 0 (suc k) (omega arith) (omega arith) is in omega arith)

@@ -72,7 +72,7 @@ takes-same same (Takes.also l is good rest) =
     (last, Takes.also l is (sym (verdict-same same l) ∙ good) takes, order)
 
 -- a group line's head has no refusal after a job's lines
-abbrev HeadFits : Job → GroupLine → Type 0
+abbrev pub HeadFits : Job → GroupLine → Type 0
 HeadFits job g = HeadGood (length (job .groups)) (memberships (job .groups)) (g .total) (g .limits) (length (g .first ∷ g .others))
 
 -- a group line without a refusal has a good head and good members
@@ -82,7 +82,7 @@ unfolding verdict
 group-good job g h = let z = first-zero _ _ h in (head-good _ _ (g .total) (g .limits) _ (z .0), z .1)
 
 -- and a group line with both has no refusal
-good-group : (job : Job) (g : GroupLine) → HeadFits job g → membersVerdict (length (job .lows)) (g .first ∷ g .others) ≡ 0
+pub good-group : (job : Job) (g : GroupLine) → HeadFits job g → membersVerdict (length (job .lows)) (g .first ∷ g .others) ≡ 0
     → verdict job (group g) ≡ 0
 unfolding verdict
 good-group job g head members = rw (good-head head) members

@@ -4,7 +4,7 @@ use mathlib.Core.Bool.{Bool, true, false}
 use mathlib.Core.List.{List}
 use mathlib.Core.Path.{_≡_, refl}
 use native.Mathlib.Omega.{arith}
-use borrow.Author.Tests.{le-leb, lt-ltb, leb-true, ltb-true, eqb-true}
+use borrow.Author.Tests.{le-leb, lt-ltb, eq-eqb, leb-true, ltb-true, eqb-true}
 use lib.Dec.{leb, ltb, eqb}
 use Rattle.model.specs.Figures.{greatestDeviation, greatestSpread, limitWithin}
 use Rattle.groups.specs.Inner.Flat.{mostWord, Coded}
@@ -68,6 +68,18 @@ unit-good units groups l h =
       room = ltb-true _ _ (d .0);
       ordered = leb-true _ _ (e .0);
     }
+
+-- and a unit line that satisfies it all has the verdict 0
+pub good-unit : {units groups : ℕ} {l : UnitLine} → UnitGood units groups l → unitVerdict units groups l ≡ 0
+unfolding unitVerdict
+good-unit {units} {groups} {l} good =
+    rw (
+      le-leb (l .low) greatestShare (good .low-fits),
+      le-leb (l .high) greatestShare (good .high-fits),
+      eq-eqb groups 0 (good .no-group),
+      lt-ltb units mostUnits (good .room),
+      le-leb (l .low) (l .high) (good .ordered),
+    )
 
 -- a group line's head without a refusal
 pub record HeadGood (groups taken total : ℕ) (limits : Limits) (count : ℕ) : Type 0 where

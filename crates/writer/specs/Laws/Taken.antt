@@ -1,0 +1,129 @@
+-- The text of a sound job is accepted, as that job. Assumes nothing.
+use Prim.Native.Nat.{ℕ, suc, _+_, _≤_, _<_}
+use mathlib.Core.Bool.{true}
+use mathlib.Core.List.{List, [], _∷_, _++_, map, append-assoc, append-nil}
+use mathlib.Core.Path.{_≡_, refl, sym, ap, _∙_}
+use native.Mathlib.Omega.{arith}
+use borrow.Author.Tests.{le-leb}
+use lib.ListN.{length, getD, length-append, length-map}
+use Rattle.groups.specs.Memberships.{memberships}
+use Rattle.groups.specs.Laws.Storing.{memberships-snoc}
+use Rattle.job.specs.Accepting.{Takes}
+use Rattle.job.specs.Form.{UnitLine, GroupLine, unit, group, printLine}
+use Rattle.job.specs.Job.{Job, mostGroups, mostMemberships, distinct, allNamed, groupOf, memberOf, membersVerdict, verdict, add, noLines}
+use Rattle.job.specs.Laws.Distinct.{distinct-members, different-distinct}
+use Rattle.job.specs.Laws.SameJob.{good-group}
+use Rattle.job.specs.Laws.Verdicts.{UnitGood, good-unit}
+use Rattle.job.specs.Sound.{AcceptedGroup, AcceptedGroups, SoundJob}
+use Rattle.model.specs.Groups.{Group}
+use Rattle.model.specs.Laws.Tests.{both}
+use Rattle.model.specs.Shares.{Ranges, mostUnits}
+use Rattle.writer.specs.Texts.{rangeLines, memberLine, jobLines}
+
+-- the unit numbers of members below the count are named
+numbers-named : (units : ℕ) (members : List ℕ) → ((k : ℕ) → k < length members → getD members k 0 < units) → allNamed units (map suc members) ≡ true
+unfolding allNamed
+numbers-named units [] below = refl
+numbers-named units (m ∷ members) below =
+    both (both (le-leb 1 (suc m) (omega arith)) (le-leb (suc m) units (omega (arith, below 0 (omega arith)))))
+    (numbers-named units members (λ k h. below (suc k) (omega arith)))
+
+-- the members behind unit numbers are the members
+numbers-back : (members : List ℕ) → map memberOf (map suc members) ≡ members
+numbers-back [] = refl
+numbers-back (m ∷ members) = let same : memberOf (suc m) ≡ m = omega arith in rw (same, numbers-back members)
+
+-- a job with these ranges behind its own
+abbrev grown : Job → List ℕ → List ℕ → Job
+grown job lows highs = record { lows = job .lows ++ lows; highs = job .highs ++ highs; groups = job .groups }
+
+-- the unit lines of ranges are taken, and what follows them after that
+takes-ranges : (job : Job) {lows highs : List ℕ} {lines : List (List ℕ)} {final : Job} → Ranges lows highs → length (job .groups) ≡ 0
+    → length (job .lows) + length lows ≤ mostUnits → Takes (grown job lows highs) lines final → Takes job (rangeLines lows highs ++ lines) final
+unfolding rangeLines printLine add verdict
+takes-ranges job Ranges.none none room rest = rw (append-nil (job .lows), append-nil (job .highs)) at rest
+takes-ranges job {lines = lines} {final = final} (Ranges.also {l} {h} {ls} {hs} ordered fits ranges) none room rest =
+    let line : UnitLine = record { low = l; high = h } in
+    let good : UnitGood (length (job .lows)) (length (job .groups)) line = record {
+      low-fits = omega arith;
+      high-fits = fits;
+      no-group = none;
+      room = omega arith;
+      ordered = ordered;
+    } in
+    let after : Takes (grown (add job (unit line)) ls hs) lines final =
+    rw (append-assoc (job .lows) (l ∷ []) ls, append-assoc (job .highs) (h ∷ []) hs) rest in
+    Takes.also (unit line) refl (good-unit good)
+    (takes-ranges (add job (unit line)) ranges none (omega (arith, length-append (job .lows) (l ∷ []))) after)
+
+-- the group line of a group with members
+pub record LineOf (g : Group) : Type 0 where
+  pub line : GroupLine
+  pub printed : memberLine g ≡ printLine (group line)
+  pub holds : groupOf line ≡ g
+  pub numbers : line .first ∷ line .others ≡ map suc (g .members)
+
+line-of : (g : Group) → 0 < length (g .members) → LineOf g
+unfolding memberLine printLine
+line-of g some = by-members (g .members) refl
+  where
+    by-members : (ms : List ℕ) → g .members ≡ ms → LineOf g
+    by-members [] is = absurd (omega (arith, ap length is))
+    by-members (m ∷ ms) is = record {
+      line = record { total = g .total; limits = g .limits; first = suc m; others = map suc ms };
+      printed = rw is;
+      holds = ap (λ (members : List ℕ). record { total = g .total; limits = g .limits; members = members }) (numbers-back (m ∷ ms) ∙ sym is);
+      numbers = rw is;
+    }
+
+-- the group line of an accepted group has no refusal while there is room
+module _ (job : Job) (g : Group) (found : LineOf g) (good : AcceptedGroup (length (job .lows)) g)
+    (room : length (job .groups) < mostGroups) (fits : memberships (job .groups) + length (g .members) ≤ mostMemberships) where
+  members-good : membersVerdict (length (job .lows)) (map suc (g .members)) ≡ 0
+  unfolding membersVerdict
+  members-good =
+      let named : allNamed (length (job .lows)) (map suc (g .members)) ≡ true = numbers-named _ (g .members) (good .sound .below) in
+      let apart : distinct (map suc (g .members)) ≡ true =
+      sym (distinct-members _ (map suc (g .members)) named)
+      ∙ ap distinct (numbers-back (g .members))
+      ∙ different-distinct (g .members) (good .sound .different) in
+      rw (named, apart)
+
+  line-good : verdict job (group (found .line)) ≡ 0
+  line-good =
+      let counted : length (found .line .first ∷ found .line .others) ≡ length (g .members) = ap length (found .numbers) ∙ length-map (g .members) suc in
+      let total-is : found .line .total ≡ g .total = ap (λ (h : Group). h .total) (found .holds) in
+      let limits-are : found .line .limits ≡ g .limits = ap (λ (h : Group). h .limits) (found .holds) in
+      good-group job (found .line) (record {
+        total-fits = rw total-is (good .total-fits);
+        deviation-fits = rw limits-are (good .deviation-fits);
+        spread-fits = rw limits-are (good .spread-fits);
+        room = room;
+        fits = omega (arith, counted, fits);
+      }) (rw (found .numbers) members-good)
+
+-- the group lines of accepted groups are taken
+takes-groups : {units : ℕ} {groups : List Group} → AcceptedGroups units groups → (job : Job) → length (job .lows) ≡ units
+    → length (job .groups) + length groups ≤ mostGroups → memberships (job .groups) + memberships groups ≤ mostMemberships
+    → Takes job (map memberLine groups) (record { lows = job .lows; highs = job .highs; groups = job .groups ++ groups })
+unfolding memberships add
+takes-groups AcceptedGroups.none job counted room fits =
+    Takes.none (ap (λ (gs : List Group). record { lows = job .lows; highs = job .highs; groups = gs }) (sym (append-nil (job .groups))))
+takes-groups (AcceptedGroups.also {g} {gs} first others) job counted room fits =
+    let at : LineOf g = line-of g (first .sound .some) in
+    let grows : List Group = job .groups ++ g ∷ [] in
+    let after : Takes (add job (group (at .line))) (map memberLine gs) (record { lows = job .lows; highs = job .highs; groups = job .groups ++ g ∷ gs }) =
+    rw (at .holds, ← append-assoc (job .groups) (g ∷ []) gs)
+    (takes-groups others (record { lows = job .lows; highs = job .highs; groups = grows }) counted
+    (omega (arith, length-append (job .groups) (g ∷ [])))
+    (omega (arith, memberships-snoc (job .groups) g))) in
+    Takes.also (group (at .line)) (at .printed) (line-good job g at (rw counted first) (omega arith) (omega arith)) after
+
+-- the lines of a sound job are taken, and give that job
+pub takes-job : (job : Job) → SoundJob job → Takes noLines (jobLines job) job
+unfolding memberships
+takes-job job sound =
+    takes-ranges noLines (sound .built .ranges) refl (omega (arith, sound .built .few-units))
+    (takes-groups (sound .built .groups-sound) (record { lows = job .lows; highs = job .highs; groups = [] }) refl
+    (omega (arith, sound .built .few-groups))
+    (omega (arith, sound .built .few-memberships)))

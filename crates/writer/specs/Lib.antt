@@ -1,0 +1,4 @@
+pub mod Texts
+pub mod Calls
+pub mod Inner
+pub mod Laws

@@ -1,0 +1,28 @@
+-- The text of a job, in the form of 01. Assumes nothing.
+use Prim.Native.Nat.{ℕ, suc}
+use mathlib.Core.List.{List, [], _∷_, _++_, map, flatten}
+use Rattle.job.specs.Form.{printUnit, printGroup}
+use Rattle.job.specs.Job.{Job}
+use Rattle.model.specs.Groups.{Group}
+
+-- the unit line of each range, in order
+unfoldable pub rangeLines : List ℕ → List ℕ → List (List ℕ)
+rangeLines [] highs = []
+rangeLines (l ∷ lows) [] = []
+rangeLines (l ∷ lows) (h ∷ highs) = printUnit l h ∷ rangeLines lows highs
+
+-- a group's line: its total, its limits and its members' unit numbers, counted from 1
+unfoldable pub memberLine : Group → List ℕ
+memberLine group = printGroup (group .total) (group .limits) (map suc (group .members))
+
+-- the lines of a job; 01: "Unit lines precede group lines"
+abbrev pub jobLines : Job → List (List ℕ)
+jobLines job = rangeLines (job .lows) (job .highs) ++ map memberLine (job .groups)
+
+-- 02: "any job and its table become text in 01's form"
+unfoldable pub jobText : Job → List ℕ
+jobText job = flatten (jobLines job)
+
+-- the most bytes of a job's text: 256 unit lines of 23, 64 group lines of 70 and 4,096 members of 4
+abbrev pub mostWritten : ℕ
+mostWritten = 26_752

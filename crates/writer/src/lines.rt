@@ -1,0 +1,128 @@
+// The lines of a job text, written into a buffer.
+use groups::Stored;
+use groups::group_at;
+use model::Limit;
+use model::Limits;
+use print::put_form;
+use print::put_item;
+use print::put_line;
+use print::put_number;
+use print::put_word;
+ghost use Prim.Native.Nat.{_+_, _≤_, suc};
+ghost use mathlib.Core.List.{flatten, _++_, map};
+ghost use mathlib.Core.Path.{_≡_};
+ghost use lib.ListN.{length};
+ghost use Rattle.groups.specs.Inner.Flat.{groupIn, groupsIn, Holds};
+ghost use Rattle.job.specs.Form.{printLimit, printUnit};
+ghost use Rattle.job.specs.Sound.{AcceptedGroups};
+ghost use Rattle.model.specs.Shares.{mostUnits};
+ghost use Rattle.print.specs.Inner.Written.{Room, Wrote};
+ghost use Rattle.print.specs.Items.{items};
+ghost use Rattle.works.specs.Tables.{Named};
+ghost use Rattle.writer.specs.Inner.Pieces.{groupHead};
+ghost use Rattle.writer.specs.Texts.{rangeLines, memberLine};
+
+// Writes a unit's line, and hands back the index after it.
+fn put_range_line(buffer: &mut [u8], at: usize, low: u64, high: u64) -> usize
+    requires { ⌜ Room (now buffer) at (printUnit low high) ⌝ }
+    ensures { λ r. ⌜ Wrote (printUnit low high) (now (buffer .entry)) at (now (buffer .exit)) r ⌝ }
+{
+    put_line(buffer, at, b"(unit", &[low, high])
+}
+
+// Writes the unit lines of all ranges, and hands back the index after them.
+pub fn put_range_lines(buffer: &mut [u8], at: usize, lows: &[u64], highs: &[u64]) -> usize
+    requires { ⌜ length (now highs) ≡ length (now lows) ⌝ }
+    requires { ⌜ Room (now buffer) at (flatten (rangeLines (now lows) (now highs))) ⌝ }
+    ensures { λ r. ⌜ Wrote (flatten (rangeLines (now (lows .entry)) (now (highs .entry)))) (now (buffer .entry)) at (now (buffer .exit)) r ⌝ }
+{
+    let mut next = at;
+    let mut i: usize = 0;
+    while i < lows.len() {
+        next = put_range_line(buffer, next, lows[i], highs[i]);
+        i += 1;
+    }
+    next
+}
+
+// Writes a limit, a number or the word any, and hands back the index after it.
+fn put_limit(buffer: &mut [u8], at: usize, limit: Limit) -> usize
+    requires { ⌜ Room (now buffer) at (printLimit limit) ⌝ }
+    ensures { λ r. ⌜ Wrote (printLimit limit) (now (buffer .entry)) at (now (buffer .exit)) r ⌝ }
+{
+    match limit {
+        Limit::Any => put_word(buffer, at, b"any"),
+        Limit::AtMost(most) => put_number(buffer, at, most),
+    }
+}
+
+// Writes what opens a limit and the limit, and hands back the index after them.
+fn put_limited(buffer: &mut [u8], at: usize, opening: &[u8], limit: Limit) -> usize
+    requires { ⌜ Room (now buffer) at (now opening ++ printLimit limit) ⌝ }
+    ensures { λ r. ⌜ Wrote (now (opening .entry) ++ printLimit limit) (now (buffer .entry)) at (now (buffer .exit)) r ⌝ }
+{
+    let next = put_word(buffer, at, opening);
+    put_limit(buffer, next, limit)
+}
+
+// Writes a group's line up to its members, and hands back the index after it.
+fn put_head(buffer: &mut [u8], at: usize, total: u64, limits: Limits) -> usize
+    requires { ⌜ Room (now buffer) at (groupHead total limits) ⌝ }
+    ensures { λ r. ⌜ Wrote (groupHead total limits) (now (buffer .entry)) at (now (buffer .exit)) r ⌝ }
+{
+    let deviation = limits.deviation;
+    let spread = limits.spread;
+    let mut next = put_form(buffer, at, b"(group", &[total]);
+    next = put_limited(buffer, next, b" (dev ", deviation);
+    next = put_limited(buffer, next, b") (spread ", spread);
+    put_word(buffer, next, b") (of")
+}
+
+// Writes the unit numbers of members, each after a space, and hands back the index after them.
+fn put_members(buffer: &mut [u8], at: usize, members: &[u64]) -> usize
+    requires { ⌜ Named mostUnits (now members) ⌝ }
+    requires { ⌜ Room (now buffer) at (items (map suc (now members))) ⌝ }
+    ensures { λ r. ⌜ Wrote (items (map suc (now (members .entry)))) (now (buffer .entry)) at (now (buffer .exit)) r ⌝ }
+{
+    let mut next = at;
+    let mut i: usize = 0;
+    while i < members.len() {
+        next = put_item(buffer, next, members[i] + 1);
+        i += 1;
+    }
+    next
+}
+
+// Writes the line of a group of a flat list, and hands back the index after it.
+fn put_member_line(buffer: &mut [u8], at: usize, flat: &[u64], group: Stored) -> usize
+    requires { ⌜ group .from + group .count ≤ length (now flat) ⌝ }
+    requires { ⌜ Named mostUnits (groupIn (now flat) group .members) ⌝ }
+    requires { ⌜ Room (now buffer) at (memberLine (groupIn (now flat) group)) ⌝ }
+    ensures { λ r. ⌜ Wrote (memberLine (groupIn (now (flat .entry)) group)) (now (buffer .entry)) at (now (buffer .exit)) r ⌝ }
+{
+    let limits = group.limits;
+    let from = group.from;
+    let end = from + group.count;
+    let mut next = put_head(buffer, at, group.total, limits);
+    next = put_members(buffer, next, &flat[from..end]);
+    put_word(buffer, next, b"))\n")
+}
+
+// Writes the lines of a flat list's groups, and hands back the index after them.
+pub fn put_member_lines(buffer: &mut [u8], at: usize, flat: &[u64], groups: u64) -> usize
+    requires { ⌜ Holds groups (now flat) ⌝ }
+    requires { ⌜ AcceptedGroups mostUnits (groupsIn groups (now flat)) ⌝ }
+    requires { ⌜ Room (now buffer) at (flatten (map memberLine (groupsIn groups (now flat)))) ⌝ }
+    ensures { λ r. ⌜ Wrote (flatten (map memberLine (groupsIn groups (now (flat .entry))))) (now (buffer .entry)) at (now (buffer .exit)) r ⌝ }
+{
+    let mut next = at;
+    let mut from: usize = 0;
+    let mut number: u64 = 0;
+    while number < groups {
+        let group = group_at(flat, from);
+        next = put_member_line(buffer, next, flat, group);
+        from = group.next;
+        number += 1;
+    }
+    next
+}
