@@ -10,6 +10,8 @@ use Rattle.group.specs.declared.Narrowing.{Narrowing}
 use Rattle.job.specs.declared.Reading.{Reading}
 use Rattle.report.specs.declared.Reporting.{Reporting}
 use Rattle.works.specs.declared.Settling.{Settling}
+use Rattle.writer.specs.declared.Writing.{Writing}
+use Rattle.planner.specs.declared.ForeignWritten.{ForeignWritten}
 use Rattle.planner.specs.declared.ForeignReport.{ForeignReport}
 use Rattle.planner.specs.declared.ForeignSettled.{ForeignSettled}
 use Rattle.planner.specs.declared.ForeignRead.{ForeignRead}
@@ -70,3 +72,8 @@ foreignReport (Reporting.Written length passes) = record { refusal = accepted; p
 foreignReport (Reporting.NoPlan number place passes) =
     record { refusal = record { number = number; place = place }; passes = passes; length = 0 }
 foreignReport (Reporting.Refused refusal) = record { refusal = foreignRefusal refusal; passes = 0; length = 0 }
+
+-- what writing answers; on a refusal the length is 0
+abbrev pub foreignWritten : Writing → ForeignWritten
+foreignWritten (Writing.Written length) = record { refusal = accepted; length = length }
+foreignWritten (Writing.Refused refusal) = record { refusal = foreignRefusal refusal; length = 0 }

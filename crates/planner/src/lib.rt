@@ -79,6 +79,13 @@ pub struct ForeignReport {
     pub length: usize,
 }
 
+// What writing a job answers: the text's length.
+#[repr(C)]
+pub struct ForeignWritten {
+    pub refusal: ForeignRefusal,
+    pub length: usize,
+}
+
 // A refusal as it crosses.
 fn refusal_out(refusal: Refusal) -> ForeignRefusal
     ensures { λ r. ⌜ r ≡ foreignRefusal refusal ⌝ }

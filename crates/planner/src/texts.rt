@@ -4,18 +4,21 @@ use crate::ForeignRead;
 use crate::ForeignRefusal;
 use crate::ForeignReport;
 use crate::ForeignSettled;
+use crate::ForeignWritten;
 use crate::refusal_out;
 use job::Reading;
 use report::Reporting;
 use table::Range;
 use works::Settling;
+use writer::Writing;
 ghost use mathlib.Core.Path.{_≡_};
 ghost use lib.ListN.{length};
 ghost use Rattle.job.specs.Reading.{readingOf, readTable, lowsAfter, highsAfter};
 ghost use Rattle.works.specs.Calls.{settleText};
 ghost use Rattle.report.specs.Calls.{reportText};
+ghost use Rattle.writer.specs.Calls.{writeText};
 ghost use Rattle.table.specs.Tables.{lowsIn, highsIn};
-ghost use Rattle.planner.specs.Foreign.{foreignRead, foreignSettled, foreignReport};
+ghost use Rattle.planner.specs.Foreign.{foreignRead, foreignSettled, foreignReport, foreignWritten};
 
 // A reading as it crosses.
 fn reading_out(answer: Reading) -> ForeignRead
@@ -136,4 +139,33 @@ pub extern "C" fn danivomel_report(
 {
     let answer = table::report(text, table, scratch, buffer);
     reporting_out(answer)
+}
+
+// What writing answers as it crosses.
+fn written_out(answer: Writing) -> ForeignWritten
+    ensures { λ r. ⌜ r ≡ foreignWritten answer ⌝ }
+{
+    match answer {
+        Writing::Written(bytes) => ForeignWritten {
+            refusal: ForeignRefusal {
+                number: 0,
+                place: 0,
+            },
+            length: bytes,
+        },
+        Writing::Refused(refusal) => ForeignWritten {
+            refusal: refusal_out(refusal),
+            length: 0,
+        },
+    }
+}
+
+// Writes a job with a table as a job text, as table::write does; the table is only read.
+#[no_mangle]
+pub extern "C" fn danivomel_write(text: &[u8], table: &[Range], buffer: &mut [u8]) -> ForeignWritten
+    ensures { λ r. ⌜ r ≡ foreignWritten (writeText (now (text .entry)) (lowsIn (now (table .entry))) (highsIn (now (table .entry))) (now (buffer .entry)) .answer) ⌝ }
+    ensures { λ _. ⌜ now (buffer .exit) ≡ writeText (now (text .entry)) (lowsIn (now (table .entry))) (highsIn (now (table .entry))) (now (buffer .entry)) .buffer ⌝ }
+{
+    let answer = table::write(text, table, buffer);
+    written_out(answer)
 }

@@ -1,9 +1,10 @@
-// Reading a job text into a table of ranges, settling and reporting over one: thin functions above those on two lists of numbers.
+// Reading a job text into a table of ranges, settling, reporting and writing over one: thin functions above those on two lists of numbers.
 // A function that holds a table is proved by a walk of its MIR, by hand.
 use job::Reading;
 use model::MOST_UNITS;
 use report::Reporting;
 use works::Settling;
+use writer::Writing;
 ghost use mathlib.Core.Path.{_≡_};
 ghost use Prim.Native.Nat.{_≤_, min};
 ghost use lib.ListN.{length};
@@ -11,8 +12,9 @@ ghost use Rattle.model.specs.Shares.{mostUnits};
 ghost use Rattle.job.specs.Reading.{ReadInto};
 ghost use Rattle.report.specs.Calls.{reported, reportText};
 ghost use Rattle.works.specs.Calls.{settlement, settleText};
+ghost use Rattle.writer.specs.Calls.{writtenText, writeText};
 ghost use Rattle.table.specs.Tables.{lowsIn, highsIn};
-ghost use Rattle.table.specs.Inner.Tables.{boundsOf, over, ranges, afterSettling, afterReporting, bufferAfter, afterReading};
+ghost use Rattle.table.specs.Inner.Tables.{boundsOf, over, ranges, afterSettling, afterReporting, bufferAfter, afterReading, afterWriting};
 
 // The range of a unit.
 #[repr(C)]
@@ -178,4 +180,23 @@ pub fn read(text: &[u8], table: &mut [Range]) -> Reading
     let found = read_bounds(text, before);
     put_bounds(table, found.bounds);
     found.answer
+}
+
+// Writes a job with bounds as a job text at the start of the buffer.
+fn write_bounds(text: &[u8], bounds: Bounds, buffer: &mut [u8]) -> Writing
+    requires { ⌜ bounds .count ≤ mostUnits ⌝ }
+    ensures { λ r. ⌜ writtenText r (now (buffer .exit)) ≡ afterWriting (now (text .entry)) bounds (now (buffer .entry)) ⌝ }
+{
+    let lows = bounds.lows;
+    let highs = bounds.highs;
+    let count = bounds.count;
+    writer::calls::write(text, &lows[..count], &highs[..count], buffer)
+}
+
+// Writes a job with a table as a job text, as writer::calls::write does with its lows and highs; the table is only read.
+pub fn write(text: &[u8], table: &[Range], buffer: &mut [u8]) -> Writing
+    ensures { λ r. ⌜ writtenText r (now (buffer .exit)) ≡ writeText (now (text .entry)) (lowsIn (now (table .entry))) (highsIn (now (table .entry))) (now (buffer .entry)) ⌝ }
+{
+    let before = take_bounds(table);
+    write_bounds(text, before, buffer)
 }

@@ -12,6 +12,7 @@ use Rattle.job.specs.Job.{JobOrRefusal}
 use Rattle.job.specs.Reading.{readingOf, readTable, lowsAfter, highsAfter}
 use Rattle.report.specs.Calls.{Reported, reportText}
 use Rattle.works.specs.Calls.{Settlement, settleText}
+use Rattle.writer.specs.Calls.{WrittenText, writeText}
 use Rattle.table.specs.Tables.{lowsIn, highsIn}
 
 -- the table with these lows and highs
@@ -71,3 +72,7 @@ afterReading text c =
       bounds = record { lows = lowsAfter found lows ++ drop (c .count) (c .lows); highs = highsAfter found highs ++ drop (c .count) (c .highs); count = c .count };
       answer = readingOf found;
     }
+
+-- what writing a text's job with bounds answers, and the buffer after it
+abbrev pub afterWriting : List ℕ → Bounds → List ℕ → WrittenText
+afterWriting text c buffer = writeText text (take (c .count) (c .lows)) (take (c .count) (c .highs)) buffer

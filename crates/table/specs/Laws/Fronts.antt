@@ -1,5 +1,5 @@
--- A job has at most 256 units: settling, reporting and reading look at the first 256 entries of a table alone. Assumes nothing.
-use Prim.Native.Nat.{ℕ, zero, suc, _≤_, min}
+-- A job has at most 256 units: settling, reporting, reading and writing look at the first 256 entries of a table alone. Assumes nothing.
+use Prim.Native.Nat.{ℕ, zero, suc, _*_, _≤_, min}
 use mathlib.Core.Bool.{Bool, true, false, _&&_}
 use mathlib.Core.Path.{_≡_, refl, sym, ap, _∙_}
 use mathlib.Core.List.{List, [], _∷_, _++_, append-assoc, append-nil}
@@ -25,13 +25,14 @@ use Rattle.works.specs.Settling as works
 use Rattle.works.specs.Tables.{Table, tableOf}
 use Rattle.works.specs.declared.Settling.{Settling}
 use Rattle.works.specs.declared.Settling.the-variants as settling
+use Rattle.writer.specs.Calls.{writeOver, writeText}
 use Rattle.table.specs.declared.Bounds.{Bounds}
 use Rattle.table.specs.declared.Range.{Range}
 use Rattle.table.specs.declared.ReadBounds.{ReadBounds}
 use Rattle.table.specs.declared.ReportedBounds.{ReportedBounds}
 use Rattle.table.specs.declared.SettledBounds.{SettledBounds}
 use Rattle.table.specs.Tables.{lowsIn, highsIn}
-use Rattle.table.specs.Inner.Tables.{over, ranges, boundsOf, afterSettling, afterReporting, bufferAfter, afterReading}
+use Rattle.table.specs.Inner.Tables.{over, ranges, boundsOf, afterSettling, afterReporting, bufferAfter, afterReading, afterWriting}
 use Rattle.table.specs.Laws.Lists.{bounds-hold, front-length, put-table}
 use Rattle.model.specs.Refusals.{refusal}
 
@@ -168,6 +169,19 @@ module _ (m : ℕ) (lows highs : List ℕ) where
   highs-front (accepted job) few = write-front (length (job .lows)) m (job .highs) highs few
   highs-front (refused r) few = take-append-drop m highs
 
+  -- and so does writing one
+  over-front : (groups : List Group) (units : ℕ) (buffer : List ℕ) → units ≤ m → writeOver groups units (take m lows) (take m highs) buffer ≡ writeOver groups units lows highs buffer
+  unfolding writeOver
+  over-front groups units buffer h = rw (check-front units (8 * units) h, take-take units m lows h, take-take units m highs h) refl
+
+  written-front : (text buffer : List ℕ) → FewIn m (readJob text) → writeText text (take m lows) (take m highs) buffer ≡ writeText text lows highs buffer
+  unfolding writeText
+  written-front text buffer few = by-outcome (readJob text) refl few
+    where
+      by-outcome : (o : JobOrRefusal) → readJob text ≡ o → FewIn m o → writeText text (take m lows) (take m highs) buffer ≡ writeText text lows highs buffer
+      by-outcome (accepted job) e few = rw (writeText, e) (over-front (job .groups) (length (job .lows)) buffer few)
+      by-outcome (refused r) e few = rw (writeText, e) refl
+
 -- the table that bounds leave
 abbrev pub putBack : Bounds → List Range → List Range
 putBack c t = over (c .count) (ranges (c .lows) (c .highs)) t
@@ -227,3 +241,9 @@ module _ (text : List ℕ) (t : List Range) where
             ∙ (λ i. highsAfter (found i) (bounds-hold (λ r. r .high) t i) ++ drop mostUnits (highsIn t))
             ∙ highs-front mostUnits (lowsIn t) (highsIn t) whole few;
       }
+
+  -- writing with a table's bounds is writing with its lows and highs
+  pub written-table : (buffer : List ℕ) → afterWriting text (boundsOf t) buffer ≡ writeText text (lowsIn t) (highsIn t) buffer
+  written-table buffer =
+      (λ i. writeText text (bounds-hold (λ r. r .low) t i) (bounds-hold (λ r. r .high) t i) buffer)
+      ∙ written-front mostUnits (lowsIn t) (highsIn t) text buffer (few-units text)
