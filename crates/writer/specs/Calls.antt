@@ -2,15 +2,16 @@
 use Prim.Native.Nat.{ℕ, _*_}
 use mathlib.Core.List.{List, _++_}
 use lib.Dec.{leb}
-use lib.ListN.{length, take, drop}
+use lib.ListN.{length, drop}
 use Rattle.group.specs.declared.Check.{Check}
 use Rattle.group.specs.declared.Check.the-variants.{Passed, Failed}
 use Rattle.job.specs.Job.{Job, readJob, accepted, refused}
 use Rattle.model.specs.Groups.{Group}
 use Rattle.model.specs.Refusals.{refusal}
 use Rattle.model.specs.Shares.{pick}
+use Rattle.works.specs.Called.{firstOf}
 use Rattle.works.specs.Calls.{checkTable}
-use Rattle.writer.specs.Texts.{jobText}
+use Rattle.writer.specs.Texts.{jobWith, jobText}
 use Rattle.writer.specs.declared.Writing.{Writing}
 use Rattle.writer.specs.declared.Writing.the-variants.{Written, Refused}
 
@@ -36,14 +37,10 @@ abbrev pub writtenAfter : Check → List ℕ → WrittenText → WrittenText
 writtenAfter (Failed refusal) buffer next = writtenText (Refused refusal) buffer
 writtenAfter Passed buffer next = next
 
--- the job of these groups with the ranges of a table's first units
-abbrev pub jobOver : List Group → ℕ → List ℕ → List ℕ → Job
-jobOver groups units lows highs = record { lows = take units lows; highs = take units highs; groups = groups }
-
 -- writing groups over the first units of a table; the checks are settling's, with a scratch that is long enough
 unfoldable pub writeOver : List Group → ℕ → List ℕ → List ℕ → List ℕ → WrittenText
 writeOver groups units lows highs buffer =
-    writtenAfter (checkTable units lows highs (8 * units)) buffer (writeJob (jobOver groups units lows highs) buffer)
+    writtenAfter (checkTable units lows highs (8 * units)) buffer (writeJob (jobWith groups (firstOf units lows highs)) buffer)
 
 -- 02: "borrows no scratch and refuses as settling does up to 7 for the lent ranges"
 unfoldable pub writeText : List ℕ → List ℕ → List ℕ → List ℕ → WrittenText

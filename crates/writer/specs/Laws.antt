@@ -6,3 +6,7 @@ pub mod Pieces
 pub mod Held
 pub mod Course
 pub mod Writes
+pub mod Answers
+pub mod Promises
+pub mod Handing
+pub mod Handed

@@ -4,6 +4,7 @@ use mathlib.Core.List.{List, [], _∷_, _++_, map, flatten}
 use Rattle.job.specs.Form.{printUnit, printGroup}
 use Rattle.job.specs.Job.{Job}
 use Rattle.model.specs.Groups.{Group}
+use Rattle.works.specs.Tables.{Table}
 
 -- the unit line of each range, in order
 unfoldable pub rangeLines : List ℕ → List ℕ → List (List ℕ)
@@ -14,6 +15,10 @@ rangeLines (l ∷ lows) (h ∷ highs) = printUnit l h ∷ rangeLines lows highs
 -- a group's line: its total, its limits and its members' unit numbers, counted from 1
 unfoldable pub memberLine : Group → List ℕ
 memberLine group = printGroup (group .total) (group .limits) (map suc (group .members))
+
+-- the job of these groups with the ranges of a table
+abbrev pub jobWith : List Group → Table → Job
+jobWith groups table = record { lows = table .lows; highs = table .highs; groups = groups }
 
 -- the lines of a job; 01: "Unit lines precede group lines"
 abbrev pub jobLines : Job → List (List ℕ)

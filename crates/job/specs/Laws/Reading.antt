@@ -1,11 +1,14 @@
 -- Laws of the answers of reading, and of what it leaves in the lists. Assumes nothing.
 use Prim.Native.Nat.{ℕ, zero, suc, _≤_, _<_}
+use mathlib.Core.Bool.{Bool, true, false, _&&_}
 use mathlib.Core.List.{List, [], _∷_, _++_}
 use mathlib.Core.Path.{_≡_, refl, ap}
 use native.Mathlib.Omega.{arith}
 use borrow.Author.Tests.{le-leb, lt-leb}
+use lib.Dec.{leb}
 use lib.ListN.{length, take, drop, length-append}
 use lib.Seq.{take-at}
+use Rattle.model.specs.Shares.{pick}
 use Rattle.model.specs.declared.Refusal.{Refusal}
 use Rattle.text.specs.Parsed.{Parsed, parsed, failed}
 use Rattle.job.specs.Form.{Line, unit, group, printLine, line}
@@ -116,3 +119,16 @@ module _ (text : List ℕ) (a b : ℕ) where
       → readTable text a b ≡ refused (refusal 1 0)
   unfolding readTable fitTable
   table-short-highs job e h k = rw (e, le-leb (length (job .lows)) a h, lt-leb (length (job .lows)) b k)
+
+  -- what is read into a table is read
+  pub table-accepted : (job : Job) → readTable text a b ≡ accepted job → readJob text ≡ accepted job
+  unfolding readTable fitTable
+  table-accepted job e = by-outcome (readJob text) e
+    where
+      by-room : (fits : Bool) (found : Job) → pick fits (accepted found) (refused (refusal 1 0)) ≡ accepted job → accepted found ≡ accepted job
+      by-room true found e = e
+      by-room false found e = absurd (let z : _≡_ {A = ℕ} 0 1 = cc in omega arith)
+
+      by-outcome : (o : JobOrRefusal) → fitTable a b o ≡ accepted job → o ≡ accepted job
+      by-outcome (accepted found) e = by-room (leb (length (found .lows)) a && leb (length (found .lows)) b) found e
+      by-outcome (refused r) e = e

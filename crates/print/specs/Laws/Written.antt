@@ -1,5 +1,5 @@
 -- Laws of bytes written one after another into a buffer. Assumes nothing.
-use Prim.Native.Nat.{ℕ, suc, _+_}
+use Prim.Native.Nat.{ℕ, suc, _+_, _≤_}
 use mathlib.Core.List.{List, [], _∷_, _++_, flatten, append-assoc}
 use mathlib.Core.Path.{_≡_, refl, sym, ap, _∙_}
 use native.Mathlib.Omega.{arith}
@@ -89,3 +89,7 @@ pub from-start : {bytes entry exit : List ℕ} {next : ℕ} → Room entry 0 byt
 from-start {bytes} {entry} room w =
     let same : 0 + length bytes ≡ length bytes = omega arith in
     (w .moved ∙ same, w .holds ∙ written-is entry 0 bytes room ∙ ap (λ (k : ℕ). bytes ++ drop k entry) same)
+
+-- the length of what a list starts with lies within it
+pub start-within : (bytes rest : List ℕ) {list : List ℕ} {size : ℕ} → size ≡ length bytes → list ≡ bytes ++ rest → size ≤ length list
+start-within bytes rest counted holds = rw (counted, holds) (omega (arith, length-append bytes rest))

@@ -8,7 +8,7 @@ use lib.Seq.{take-at}
 use Rattle.group.specs.declared.Check.the-variants.{Passed}
 use Rattle.job.specs.Job.{JobOrRefusal, accepted, refused, mostBytes, readJob}
 use Rattle.job.specs.Reading.{readTable, ReadInto}
-use Rattle.job.specs.Laws.Reading.{accepted-by, refused-by, table-fits, table-refused}
+use Rattle.job.specs.Laws.Reading.{accepted-by, refused-by, table-fits, table-refused, table-accepted}
 use Rattle.job.specs.Sound.{SoundJob}
 use Rattle.job.specs.Laws.Sound.{accepted-sound}
 use Rattle.job.specs.declared.Reading.{Reading}
@@ -47,26 +47,26 @@ table-holds text a b p q = by-outcome (readJob text) refl
         table-fits text a b found e (omega (arith, few)) (omega (arith, few)) ∙ sym e
     by-outcome (refused refusal) e = table-refused text a b refusal e ∙ sym e
 
--- what reading a text into such a table answers and leaves
-module _ {text lows₀ highs₀ lows highs : List ℕ} {answer : Reading} (filled : ReadInto text lows₀ highs₀ lows highs answer)
-    (forLows : mostUnits ≤ length lows₀) (forHighs : mostUnits ≤ length highs₀) where
-  holds : readTable text (length lows₀) (length highs₀) ≡ readJob text
-  holds = table-holds text (length lows₀) (length highs₀) forLows forHighs
+-- what reading a text into a table answers and leaves
+module _ {text lows₀ highs₀ lows highs : List ℕ} {answer : Reading} (filled : ReadInto text lows₀ highs₀ lows highs answer) where
+  -- a text is refused as the answer says, where the table has room for every job
+  pub read-refused : mostUnits ≤ length lows₀ → mostUnits ≤ length highs₀ → {refusal : Refusal} → answer ≡ reading.Refused refusal
+      → readJob text ≡ refused refusal
+  read-refused forLows forHighs {refusal} refuses =
+      sym (table-holds text (length lows₀) (length highs₀) forLows forHighs) ∙ refused-by _ refusal (sym refuses ∙ filled .answer)
 
-  -- a refusal's line is printed
-  pub refused-prints : {refusal : Refusal} → answer ≡ reading.Refused refusal
+  -- and the refusal's line is printed
+  pub refused-prints : mostUnits ≤ length lows₀ → mostUnits ≤ length highs₀ → {refusal : Refusal} → answer ≡ reading.Refused refusal
       → printedOf text ≡ refusalLine (refusal .number) (refusal .place)
   unfolding printedOf printedRead
-  refused-prints {refusal} refuses =
-      let found : readTable text (length lows₀) (length highs₀) ≡ refused refusal = refused-by _ refusal (sym refuses ∙ filled .answer) in
-      ap printedRead (sym holds ∙ found)
+  refused-prints forLows forHighs {refusal} refuses = ap printedRead (read-refused forLows forHighs refuses)
 
   -- the table of a text that is read opens its settling
-  pub read-opens : {units listed : ℕ} → answer ≡ reading.Read units listed → (scratch : ℕ) → 8 * mostUnits ≤ scratch
+  pub filled-opens : {units listed : ℕ} → answer ≡ reading.Read units listed → (scratch : ℕ) → 8 * units ≤ scratch
       → Opened text lows highs scratch
-  read-opens {units} {listed} reads scratch forScratch =
+  filled-opens {units} {listed} reads scratch forScratch =
       let (found, accepts, counts, lists) = accepted-by _ units listed (sym reads ∙ filled .answer) in
-      let job-is : readJob text ≡ accepted found = sym holds ∙ accepts in
+      let job-is : readJob text ≡ accepted found = table-accepted text _ _ found accepts in
       let sound : SoundJob found = accepted-sound text found job-is in
       let n : ℕ = length (found .lows) in
       let lows-are : lows ≡ found .lows ++ drop n lows₀ = rw accepts at (filled .lows-are) in
@@ -77,7 +77,7 @@ module _ {text lows₀ highs₀ lows highs : List ℕ} {answer : Reading} (fille
       let room : Roomy n (length lows) (length highs) scratch = record {
         forLows = rw lows-are (omega (arith, length-append (found .lows) (drop n lows₀)));
         forHighs = rw highs-are (omega (arith, length-append (found .highs) (drop n highs₀)));
-        forScratch = omega (arith, sound .built .few-units);
+        forScratch = omega (arith, counts);
       } in
       let passes : checkTable n lows highs scratch ≡ Passed =
       ranges-pass n lows highs scratch (sound .some-unit) (sound .built .few-units) room (rw (front-lows, front-highs) (sound .built .ranges)) in
@@ -85,6 +85,14 @@ module _ {text lows₀ highs₀ lows highs : List ℕ} {answer : Reading} (fille
         cleared = record { found = found; reads = job-is; passes = passes };
         opens = λ i. tableOf (front-lows i) (front-highs i);
       }
+
+  -- also with a scratch for every job
+  pub read-opens : {units listed : ℕ} → answer ≡ reading.Read units listed → (scratch : ℕ) → 8 * mostUnits ≤ scratch
+      → Opened text lows highs scratch
+  read-opens {units} {listed} reads scratch forScratch =
+      let (found, accepts, counts, lists) = accepted-by _ units listed (sym reads ∙ filled .answer) in
+      let few = accepted-sound text found (table-accepted text _ _ found accepts) .built .few-units in
+      filled-opens reads scratch (omega (arith, counts, few))
 
 -- reporting over such a table
 module _ {text lows highs : List ℕ} {scratch : ℕ} (opened : Opened text lows highs scratch) (buffer : List ℕ)

@@ -1,17 +1,10 @@
 -- The bytes read lie within the list. Assumes nothing.
 use borrow.Author.Needs.{needs}
-use mathlib.Core.Path.{_≡_, sym}
-use Prim.Native.Nat.{ℕ, _≤_}
+use mathlib.Core.Path.{sym}
 use lib.Seq.{length-take-le}
-use Rattle.settle.specs.Inner.Inputs.{bytesRead}
-use Rattle.settle.specs.declared.Input.{Input}
-use Rattle.settle.specs.declared.Input.the-variants.{Read}
+use Rattle.console.specs.Laws.Inputs.{within-read}
 use Rattle.settle.proofs.main.Statement.{statement}
 use Rattle.settle.proofs.main.Tie as tie
-
--- as many bytes as are read
-within-read : {input : Input} {count most : ℕ} → input ≡ Read count → bytesRead input ≤ most → count ≤ most
-within-read is fits = rw is at fits
 
 job-text-requires : tie.Need-job-text-requires
 job-text-requires c κs = search needs

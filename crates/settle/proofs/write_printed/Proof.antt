@@ -1,18 +1,11 @@
 -- What is printed lies within the buffer. Assumes nothing.
 use borrow.Author.Needs.{needs}
-use mathlib.Core.List.{List, _++_}
-use mathlib.Core.Path.{_≡_, sym}
-use native.Mathlib.Omega.{arith}
-use Prim.Native.Nat.{ℕ, _≤_}
-use lib.ListN.{length, length-append}
+use mathlib.Core.Path.{sym}
 use lib.Seq.{length-take-le}
+use Rattle.print.specs.Laws.Written.{start-within}
 use Rattle.report.specs.Program.{printedOf}
 use Rattle.settle.proofs.write_printed.Statement.{statement}
 use Rattle.settle.proofs.write_printed.Tie as tie
-
--- the length of what a list starts with lies within it
-within : (bytes rest : List ℕ) {exit : List ℕ} {n : ℕ} → n ≡ length bytes → exit ≡ bytes ++ rest → n ≤ length exit
-within bytes rest counted holds = rw (counted, holds) (omega (arith, length-append bytes rest))
 
 large-buffer-requires : tie.Need-large-buffer-requires
 large-buffer-requires c κs = search needs
@@ -22,7 +15,7 @@ print-job-requires c κs = search needs
 
 array-share-prefix-buffer : tie.Need-array-share-prefix-buffer
 array-share-prefix-buffer c =
-    within (printedOf (c .before .before .before .before .args .text .now)) _ (c .print-job .ensures .0) (c .print-job .ensures .1)
+    start-within (printedOf (c .before .before .before .before .args .text .now)) _ (c .print-job .ensures .0) (c .print-job .ensures .1)
 
 slice-aggregate-write-all : tie.Need-slice-aggregate-write-all
 slice-aggregate-write-all c = sym (length-take-le _ _ (array-share-prefix-buffer (c .before)))

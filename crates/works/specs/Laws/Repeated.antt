@@ -21,8 +21,8 @@ use Rattle.works.specs.Laws.Settled.{settled-again, any-order}
 module _ {text lows highs : List ℕ} {scratch : ℕ} (cleared : Cleared text lows highs scratch) {passes : ℕ}
     (answers : called cleared .answer ≡ Settled passes) where
   -- the checks let the settled table through
-  abbrev again : Cleared text (called cleared .lows) (called cleared .highs) scratch
-  again = record {
+  abbrev pub settled-cleared : Cleared text (called cleared .lows) (called cleared .highs) scratch
+  settled-cleared = record {
     found = cleared .found;
     reads = cleared .reads;
     passes = ranges-pass (count cleared) (called cleared .lows) (called cleared .highs) scratch
@@ -40,7 +40,7 @@ module _ {text lows highs : List ℕ} {scratch : ℕ} (cleared : Cleared text lo
   -- settling a settled table takes one pass and changes nothing
   pub called-again : settleText text (called cleared .lows) (called cleared .highs) scratch ≡ settlement (Settled 1) (called cleared .lows) (called cleared .highs)
   called-again =
-      called-is again
+      called-is settled-cleared
       ∙ rw (
         settled-again (opening-sound cleared) (called-settled cleared answers),
         take-append-drop (count cleared) (called cleared .lows),

@@ -6,10 +6,16 @@ use lib.ListN.{length}
 use Rattle.groups.specs.Inner.Flat.{groupsIn, Holds}
 use Rattle.job.specs.Job.{Job}
 use Rattle.job.specs.Sound.{SoundJob}
+use Rattle.report.specs.Inner.Printed.{Opened}
+use Rattle.works.specs.Called.{Cleared}
+use Rattle.works.specs.Calls.{settlement, settleText}
+use Rattle.works.specs.Tables.{tableOf}
+use Rattle.works.specs.declared.Settling.{Settling}
+use Rattle.writer.specs.Texts.{jobWith}
 
 -- the job of a flat list's groups and these ranges
 abbrev pub jobHeld : List ℕ → ℕ → List ℕ → List ℕ → Job
-jobHeld flat count lows highs = record { lows = lows; highs = highs; groups = groupsIn count flat }
+jobHeld flat count lows highs = jobWith (groupsIn count flat) (tableOf lows highs)
 
 -- a flat list holds the groups of a sound job of so many units
 pub record HeldGroups (flat : List ℕ) (count units : ℕ) : Type 0 where
@@ -18,3 +24,16 @@ pub record HeldGroups (flat : List ℕ) (count units : ℕ) : Type 0 where
   pub sound : SoundJob job
   pub lists : job .groups ≡ groupsIn count flat
   pub counts : length (job .lows) ≡ units
+
+-- settling's checks let a text and a table through, with some scratch
+pub record LetThrough (text lows highs : List ℕ) : Type 0 where
+  pub scratch : ℕ
+  pub cleared : Cleared text lows highs scratch
+
+-- what settling answers and leaves over the table that a text's unit lines filled
+pub record SettledFrom (text : List ℕ) (answer : Settling) (lows highs : List ℕ) : Type 0 where
+  pub lows₀ : List ℕ
+  pub highs₀ : List ℕ
+  pub scratch : ℕ
+  pub opened : Opened text lows₀ highs₀ scratch
+  pub settles : settlement answer lows highs ≡ settleText text lows₀ highs₀ scratch

@@ -17,35 +17,44 @@ use Rattle.job.specs.declared.Reading.{Reading}
 use Rattle.job.specs.declared.Reading.the-variants as reading
 use Rattle.model.specs.Groups.{Group}
 use Rattle.model.specs.declared.Refusal.{Refusal}
+use Rattle.works.specs.Called.{firstOf}
 use Rattle.works.specs.Calls.{checkTable}
 use Rattle.works.specs.Laws.Checked.{passed-room, passed-ranges}
-use Rattle.writer.specs.Calls.{writtenText, jobOver, writeOver, writeText}
+use Rattle.works.specs.Tables.{Table, Valid, units}
+use Rattle.writer.specs.Calls.{writtenText, writeOver, writeText}
 use Rattle.writer.specs.Inner.Asked.{HeldGroups}
+use Rattle.writer.specs.Texts.{jobWith}
 use Rattle.writer.specs.declared.Writing.the-variants.{Refused}
 
--- a job with other ranges that pass the checks is sound
-pub over-sound : {groups : List Group} {units : ℕ} (lows highs : List ℕ) (scratch : ℕ) (job : Job) → SoundJob job → job .groups ≡ groups
-    → length (job .lows) ≡ units → checkTable units lows highs scratch ≡ Passed → SoundJob (jobOver groups units lows highs)
-over-sound {units = units} lows highs scratch job sound lists counts passes =
-    let room = passed-room units lows highs scratch passes in
-    let many : length (jobOver (job .groups) units lows highs .lows) ≡ units = length-take-le units lows (room .forLows) in
+-- a sound job with other ranges of its units is sound
+pub with-sound : (job : Job) → SoundJob job → (table : Table) → Valid table → units table ≡ length (job .lows) → SoundJob (jobWith (job .groups) table)
+with-sound job sound table valid counts =
     let built = sound .built in
-    rw (← lists) (record {
-      some-unit = omega (arith, many, counts, sound .some-unit);
+    record {
+      some-unit = omega (arith, counts, sound .some-unit);
       built = record {
-        ranges = passed-ranges units lows highs scratch passes .ranges;
-        few-units = omega (arith, many, counts, built .few-units);
+        ranges = valid;
+        few-units = omega (arith, counts, built .few-units);
         few-groups = built .few-groups;
         few-memberships = built .few-memberships;
-        groups-sound = rw (many, ← counts) (built .groups-sound);
+        groups-sound = rw counts (built .groups-sound);
       };
-    })
+    }
+
+-- so with those of a table that passes the checks
+pub over-sound : {listed : List Group} {number : ℕ} (lows highs : List ℕ) (scratch : ℕ) (job : Job) → SoundJob job → job .groups ≡ listed
+    → length (job .lows) ≡ number → checkTable number lows highs scratch ≡ Passed → SoundJob (jobWith listed (firstOf number lows highs))
+over-sound {number = number} lows highs scratch job sound lists counts passes =
+    let room = passed-room number lows highs scratch passes in
+    rw (← lists)
+    (with-sound job sound (firstOf number lows highs) (passed-ranges number lows highs scratch passes .ranges)
+    (length-take-le number lows (room .forLows) ∙ sym counts))
 
 -- a list that starts with the flat list of a job's groups
-module _ (found : Job) {flat : List ℕ} (rest : List ℕ) {units count : ℕ} (starts : flat ≡ flatten (found .groups) ++ rest)
-    (counts : length (found .lows) ≡ units) (lists : length (found .groups) ≡ count) where
+module _ (found : Job) {flat : List ℕ} (rest : List ℕ) {number count : ℕ} (starts : flat ≡ flatten (found .groups) ++ rest)
+    (counts : length (found .lows) ≡ number) (lists : length (found .groups) ≡ count) where
   -- holds them
-  starts-held : SoundJob found → HeldGroups flat count units
+  starts-held : SoundJob found → HeldGroups flat count number
   starts-held sound =
       rw (starts, ← counts, ← lists)
       (record {
@@ -58,23 +67,23 @@ module _ (found : Job) {flat : List ℕ} (rest : List ℕ) {units count : ℕ} (
 
   -- and is written as a text that is read as the job
   starts-writes : (text : List ℕ) → readJob text ≡ accepted found → (lows highs buffer : List ℕ)
-      → writeOver (groupsIn count flat) units lows highs buffer ≡ writeText text lows highs buffer
+      → writeOver (groupsIn count flat) number lows highs buffer ≡ writeText text lows highs buffer
   unfolding writeText
   starts-writes text reads lows highs buffer = rw (starts, ← counts, ← lists, flatten-groups (found .groups) rest, writeText, reads)
 
 -- what scanning a text answers and leaves
 module _ {text flat₀ flat : List ℕ} {answer : Reading} (scanned : GroupsScanned text flat₀ flat answer) where
   -- the groups of a text that is read are held
-  pub read-held : {units count : ℕ} → answer ≡ reading.Read units count → HeldGroups flat count units
-  read-held {units} {count} reads =
-      let (found, accepts, counts, lists) = accepted-by (readJob text) units count (sym reads ∙ scanned .answer) in
+  pub read-held : {number count : ℕ} → answer ≡ reading.Read number count → HeldGroups flat count number
+  read-held {number} {count} reads =
+      let (found, accepts, counts, lists) = accepted-by (readJob text) number count (sym reads ∙ scanned .answer) in
       starts-held found _ (scanned .found-flat found accepts) counts lists (accepted-sound text found accepts)
 
   -- it is written as its groups are
-  pub read-writes : {units count : ℕ} → answer ≡ reading.Read units count → (lows highs buffer : List ℕ)
-      → writeOver (groupsIn count flat) units lows highs buffer ≡ writeText text lows highs buffer
-  read-writes {units} {count} reads =
-      let (found, accepts, counts, lists) = accepted-by (readJob text) units count (sym reads ∙ scanned .answer) in
+  pub read-writes : {number count : ℕ} → answer ≡ reading.Read number count → (lows highs buffer : List ℕ)
+      → writeOver (groupsIn count flat) number lows highs buffer ≡ writeText text lows highs buffer
+  read-writes {number} {count} reads =
+      let (found, accepts, counts, lists) = accepted-by (readJob text) number count (sym reads ∙ scanned .answer) in
       starts-writes found _ (scanned .found-flat found accepts) counts lists text accepts
 
   -- a text that is refused leaves the buffer

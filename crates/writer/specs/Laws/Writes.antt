@@ -4,7 +4,7 @@ use mathlib.Core.List.{List, _++_}
 use mathlib.Core.Path.{_≡_, refl, sym, ap, _∙_}
 use native.Mathlib.Omega.{arith}
 use borrow.Author.Tests.{le-leb, lt-leb}
-use lib.ListN.{length, take, drop, length-append}
+use lib.ListN.{length, take, drop}
 use lib.Seq.{take-at}
 use Rattle.group.specs.declared.Check.the-variants.{Passed, Failed}
 use Rattle.job.specs.Job.{Job}
@@ -13,9 +13,10 @@ use Rattle.model.specs.Refusals.{refusal}
 use Rattle.model.specs.declared.Refusal.{Refusal}
 use Rattle.print.specs.Inner.Written.{Room, Wrote}
 use Rattle.print.specs.Laws.Written.{from-start}
+use Rattle.works.specs.Called.{firstOf}
 use Rattle.works.specs.Calls.{checkTable}
-use Rattle.writer.specs.Calls.{writtenText, writeJob, jobOver, writeOver}
-use Rattle.writer.specs.Texts.{jobText}
+use Rattle.writer.specs.Calls.{writtenText, writeJob, writeOver}
+use Rattle.writer.specs.Texts.{jobWith, jobText}
 use Rattle.writer.specs.declared.Writing.the-variants.{Written, Refused}
 
 -- a text longer than the buffer is refused, and leaves it
@@ -32,9 +33,6 @@ text-written job buffer fits = rw (le-leb (length (jobText job)) (length buffer)
 -- a page that begins with a job's text
 module _ (job : Job) (rest : List ℕ) {page : List ℕ} {size : ℕ} (counted : size ≡ length (jobText job)) (holds : page ≡ jobText job ++ rest) where
   -- has it in its first bytes
-  pub page-within : size ≤ length page
-  page-within = omega (arith, counted, ap length holds, length-append (jobText job) rest)
-
   page-text : take size page ≡ jobText job
   page-text = ap (take size) holds ∙ take-at (jobText job) rest size (sym counted)
 
@@ -63,6 +61,6 @@ module _ (groups : List Group) (units : ℕ) (lows highs buffer : List ℕ) wher
 
   -- one that passes them is written
   pub over-passed : checkTable units lows highs (8 * units) ≡ Passed
-      → writeJob (jobOver groups units lows highs) buffer ≡ writeOver groups units lows highs buffer
+      → writeJob (jobWith groups (firstOf units lows highs)) buffer ≡ writeOver groups units lows highs buffer
   unfolding writeOver
   over-passed passes = rw passes

@@ -14,7 +14,7 @@ enum-told c = search needs
 print-report-requires : tie.Need-print-report-requires
 print-report-requires c κs =
     let start = c .before .before .before .before .before .before .before .before .before .before .before .before .before .before .before .before .before .before in
-    (read-opens (c .before .before .before .before .before .before .before .before .before .before .read .ensures) (start .pre .forLows) (start .pre .forHighs) (c .before .before .before .before .enum-told .given .1) _ (start .pre .forScratch), start .pre .forBuffer)
+    (read-opens (c .before .before .before .before .before .before .before .before .before .before .read .ensures) (c .before .before .before .before .enum-told .given .1) _ (start .pre .forScratch), start .pre .forBuffer)
 
 enum-known-refusal : tie.Need-enum-known-refusal
 enum-known-refusal c = search needs

@@ -3,8 +3,10 @@ use borrow.Author.Needs.{needs}
 use mathlib.Core.Path.{sym}
 use lib.Seq.{length-take-le}
 use Rattle.job.specs.Job.{Job}
+use Rattle.print.specs.Laws.Written.{start-within}
 use Rattle.writer.specs.Inner.Asked.{jobHeld}
-use Rattle.writer.specs.Laws.Writes.{page-within, page-refused, page-room, page-written}
+use Rattle.writer.specs.Laws.Writes.{page-refused, page-room, page-written}
+use Rattle.writer.specs.Texts.{jobText}
 use Rattle.writer.proofs.calls.write_by.Statement.{statement}
 use Rattle.writer.proofs.calls.write_by.Tie as tie
 
@@ -30,7 +32,7 @@ returns c =
 slice-reshare-prefix-put-word : tie.Need-slice-reshare-prefix-put-word
 slice-reshare-prefix-put-word c =
     let put = c .before .before .before .before in
-    page-within (job put) _ (put .put-job .ensures .0) (put .put-job .ensures .1)
+    start-within (jobText (job put)) _ (put .put-job .ensures .0) (put .put-job .ensures .1)
 
 slice-aggregate-put-word : tie.Need-slice-aggregate-put-word
 slice-aggregate-put-word c = sym (length-take-le _ _ (slice-reshare-prefix-put-word (c .before)))

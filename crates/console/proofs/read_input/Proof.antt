@@ -3,8 +3,8 @@ use borrow.Author.Needs.{needs}
 use Prim.Native.Nat.{_-_, _≤_}
 use mathlib.Core.Path.{_≡_}
 use lib.ListN.{length}
-use Rattle.settle.proofs.read_input.Statement.{statement}
-use Rattle.settle.proofs.read_input.Tie as tie
+use Rattle.console.proofs.read_input.Statement.{statement}
+use Rattle.console.proofs.read_input.Tie as tie
 
 -- the bytes read so far lie within the list, which keeps its length
 abbrev Inv-loop : tie.InvT-loop

@@ -1,7 +1,7 @@
 -- What reading the input gives. Assumes nothing.
 use Prim.Native.Nat.{ℕ}
-use Rattle.settle.specs.declared.Input.{Input}
-use Rattle.settle.specs.declared.Input.the-variants.{Read, Failed}
+use Rattle.console.specs.declared.Input.{Input}
+use Rattle.console.specs.declared.Input.the-variants.{Read, Failed}
 
 -- the bytes that reading the input gives; a failed read gives none
 abbrev pub bytesRead : Input → ℕ

@@ -1,0 +1,77 @@
+-- What is handed on of a text settles as the text does, in one pass. Assumes nothing.
+use Prim.Native.Nat.{ℕ}
+use mathlib.Core.List.{List, _++_}
+use mathlib.Core.Path.{_≡_, refl, sym, ap, _∙_}
+use lib.ListN.{length}
+use Rattle.job.specs.Job.{Job, JobOrRefusal, accepted, refused, readJob}
+use Rattle.job.specs.Laws.Sound.{accepted-sound}
+use Rattle.job.specs.TextLines.{linesOf}
+use Rattle.model.specs.Groups.{Group}
+use Rattle.report.specs.Laws.Cut.{report-cut}
+use Rattle.report.specs.Lines.{settledLine, refusalLine}
+use Rattle.report.specs.Places.{reportLines}
+use Rattle.report.specs.Program.{printedRead, printedOf}
+use Rattle.report.specs.Reports.{unitLines, groupLines, printed, reportOf}
+use Rattle.works.specs.Consistency.{SoundOpening}
+use Rattle.works.specs.Laws.Accepted.{accepted-groups}
+use Rattle.works.specs.Laws.Settled.{settled-inside, settled-consistent, settled-again}
+use Rattle.works.specs.Settling.{Outcome, settle}
+use Rattle.works.specs.Tables.{Table, tableOf}
+use Rattle.writer.specs.Handing.{handedAfter, handedRead, handedOn, SameHandedOn}
+use Rattle.writer.specs.Laws.Held.{with-sound}
+use Rattle.writer.specs.Laws.Spelled.{text-accepted}
+use Rattle.writer.specs.Texts.{jobWith, jobText}
+
+-- what is printed and handed on of a text that is read so
+printed-read : (text : List ℕ) {o : JobOrRefusal} → readJob text ≡ o → printedOf text ≡ printedRead o
+unfolding printedOf
+printed-read text reads = ap printedRead reads
+
+pub handed-read : (text : List ℕ) {o : JobOrRefusal} → readJob text ≡ o → handedOn text ≡ handedRead o
+unfolding handedOn
+handed-read text reads = ap handedRead reads
+
+-- of a job that settles so
+module _ (text : List ℕ) (found : Job) (reads : readJob text ≡ accepted found) where
+  abbrev opening : Table
+  opening = tableOf (found .lows) (found .highs)
+
+  printed-settles : {outcome : Outcome} → settle (found .groups) opening ≡ outcome → printedOf text ≡ printed (found .groups) outcome
+  unfolding printedRead
+  printed-settles settles = printed-read text reads ∙ ap (printed (found .groups)) settles
+
+  pub handed-settles : {outcome : Outcome} → settle (found .groups) opening ≡ outcome → handedOn text ≡ handedAfter (found .groups) outcome
+  unfolding handedRead
+  handed-settles settles = handed-read text reads ∙ ap (handedAfter (found .groups)) settles
+
+-- the lines of a report: those of the passes, the units and the groups
+lines-of : {bytes : List ℕ} (groups : List Group) (table : Table) (passes : ℕ) → bytes ≡ reportOf groups table passes
+    → linesOf bytes ≡ reportLines groups table passes
+lines-of groups table passes is = ap linesOf is ∙ report-cut groups table passes
+
+-- of every text
+pub same-handed-on : (text : List ℕ) → SameHandedOn text
+unfolding printedRead handedRead printed handedAfter
+same-handed-on text = by-text (readJob text) refl
+  where
+    by-outcome : (found : Job) → readJob text ≡ accepted found → (outcome : Outcome) → settle (found .groups) (tableOf (found .lows) (found .highs)) ≡ outcome
+        → SameHandedOn text
+    by-outcome found reads (Outcome.refused number place passes) settles =
+        SameHandedOn.line number place (printed-settles text found reads settles) (handed-settles text found reads settles)
+    by-outcome found reads (Outcome.settled table passes) settles =
+        let sound : SoundOpening (found .groups) (tableOf (found .lows) (found .highs)) =
+        accepted-groups text found reads (accepted-sound text found reads .built .ranges) refl in
+        let again : Job = jobWith (found .groups) table in
+        let reads-again : readJob (jobText again) ≡ accepted again =
+        text-accepted again (with-sound found (accepted-sound text found reads) table (settled-consistent sound settles .valid) (settled-inside sound settles .sameLows)) in
+        let settles-again : settle (found .groups) table ≡ Outcome.settled table 1 = settled-again sound settles in
+        let handed : handedOn text ≡ jobText again = handed-settles text found reads settles in
+        SameHandedOn.handed passes (unitLines 1 (table .lows) (table .highs) ++ groupLines 1 table (found .groups))
+        (lines-of (found .groups) table passes (printed-settles text found reads settles))
+        (lines-of (found .groups) table 1 (ap printedOf handed ∙ printed-settles (jobText again) again reads-again settles-again))
+        (ap handedOn handed ∙ handed-settles (jobText again) again reads-again settles-again ∙ sym handed)
+
+    by-text : (o : JobOrRefusal) → readJob text ≡ o → SameHandedOn text
+    by-text (accepted found) reads = by-outcome found reads (settle (found .groups) (tableOf (found .lows) (found .highs))) refl
+    by-text (refused reason) refuses =
+        SameHandedOn.line (reason .number) (reason .place) (printed-read text refuses) (handed-read text refuses)
