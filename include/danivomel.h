@@ -3,7 +3,8 @@
  *
  * danivomel_level gives one group's most even share and its figures (the stand level of the offer), danivomel_narrow
  * the range that each unit of one group may still be given under limits (press), and danivomel_read, danivomel_settle
- * and danivomel_report settle many groups over shared units (works).
+ * and danivomel_report settle many groups over shared units (works). danivomel_write writes a job with the ranges of a
+ * table as a job text, so that a settled job can be handed on.
  *
  * A list is a pointer and a count, and so is a table, a list of ranges. Every pointer must be valid for its count of
  * items, aligned and not null, also where the count is 0; a list that a call writes must overlap no other list of the
@@ -27,7 +28,8 @@ extern "C" {
 /*
  * The numbers of refusals, and their places. Lines, units and groups are counted from 1. Calls on lists of one group
  * (danivomel_level, danivomel_narrow) refuse 1, 4, 7, 11 and 12 only, and their place is a unit or 0. In calls on a job
- * text 4 and 7 have a line for their place where the text is at fault, and a unit where a range of the table is.
+ * text 4 and 7 have a line for their place where the text is at fault, and a unit where a range of the table is. Reading
+ * and writing (danivomel_read, danivomel_write) refuse 1 to 10 only.
  */
 enum {
     DANIVOMEL_DONE = 0,                /* not refused */
@@ -185,6 +187,25 @@ danivomel_reported danivomel_report(
     const uint8_t *text, size_t text_count,
     danivomel_range *table, size_t table_count,
     uint64_t *scratch, size_t scratch_count,
+    uint8_t *buffer, size_t buffer_count);
+
+/* What writing answers. On every refusal (1 to 10) the length is 0. On success it is 11 to 26,752. */
+typedef struct {
+    danivomel_refusal refusal;
+    size_t length;
+} danivomel_written;
+
+/*
+ * Writes a job as a job text to the start of the buffer: the unit lines hold the ranges of the table, the group lines
+ * are those of the text. What is written reads as the same job with the table's ranges; a text with the table that its
+ * reading filled is written as the same bytes; and a settled job that was written settles in one pass. The table is not
+ * changed, and no scratch is needed.
+ * Refuses, in this order: as reading, table included; 4, then 7 for the ranges of the table, place the first such unit;
+ * 1 for a buffer with fewer bytes than are to be written. 26,752 bytes are always enough.
+ */
+danivomel_written danivomel_write(
+    const uint8_t *text, size_t text_count,
+    const danivomel_range *table, size_t table_count,
     uint8_t *buffer, size_t buffer_count);
 
 #ifdef __cplusplus

@@ -12,6 +12,7 @@ pub struct Results {
     pub narrow: Vec<Timed>,
     pub read: Vec<Times>,
     pub settle: Vec<(String, Times)>,
+    pub write: Vec<Times>,
 }
 
 /// A goal: what is measured, the figure, and whether it should be at most or at least a number.
@@ -40,7 +41,7 @@ pub fn run(results: &Results) -> Table {
 
 /// All goals.
 fn goals(results: &Results) -> Vec<Goal> {
-    let Results { level, narrow, read, settle } = results;
+    let Results { level, narrow, read, settle, write } = results;
     let narrowing = || narrow.iter().map(|timed| &timed.times);
     let settling = || settle.iter().map(|(_, times)| times);
     let tight = |n: usize| narrow.iter().filter(move |timed| timed.n == n && timed.tightness == Tightness::Tight);
@@ -67,6 +68,7 @@ fn goals(results: &Results) -> Vec<Goal> {
             true,
             1.2,
         ),
+        goal("writing, planner / plain Rust, greatest of all jobs", worst(write.iter(), BISECTION), true, 1.2),
         goal("narrowing 64 members, times as fast as by bisection", faster(64), false, 5.0),
         goal("narrowing 256 members, times as fast as by bisection", faster(256), false, 20.0),
         goal("narrowing, planner / Gecode, greatest of all rows", worst(narrowing(), GECODE), true, 1.0),

@@ -74,6 +74,8 @@ fn measured(start: Instant) -> (Vec<Table>, Results, Vec<Row>) {
     let (settles, settle) = work::settle::run();
     step("reporting");
     let reports = work::report::run();
+    step("writing");
+    let (writes, write) = work::write::run();
     step("what Gecode leaves");
     let filtering = work::filtering::run();
     step("what Gecode does not refuse");
@@ -81,9 +83,9 @@ fn measured(start: Instant) -> (Vec<Table>, Results, Vec<Row>) {
     step("the experiment of 001");
     let (paper, rows) = work::paper::run();
     step("the goals");
-    let mut tables = vec![levels, narrows, growth, wide, reads, settles, reports, filtering, refusals];
+    let mut tables = vec![levels, narrows, growth, wide, reads, settles, reports, writes, filtering, refusals];
     tables.extend(paper);
-    (tables, Results { level, narrow, read, settle }, rows)
+    (tables, Results { level, narrow, read, settle, write }, rows)
 }
 
 /// What there is to know about a run.

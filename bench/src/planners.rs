@@ -1,7 +1,7 @@
 //! Who takes part, by name.
 
 use crate::plain;
-use danivomel_tests::calls::{Level, Narrow, Read, Report, Settle};
+use danivomel_tests::calls::{Level, Narrow, Read, Report, Settle, Write};
 use danivomel_tests::independent;
 
 /// The proved planner, from its archive.
@@ -32,3 +32,6 @@ pub const SETTLES: &[(&str, Settle)] =
 
 /// Who reports.
 pub const REPORTS: &[(&str, Report)] = &[(BISECTION, independent::report), (PLANNER, danivomel::report)];
+
+/// Who writes.
+pub const WRITES: &[(&str, Write)] = &[(BISECTION, independent::write), (PLANNER, danivomel::write)];

@@ -1,4 +1,4 @@
-/* A program in C over the planner's archive: known shares, ranges and a job, and the layout of what crosses. */
+/* A program in C over the planner's archive: known shares, ranges and jobs, and the layout of what crosses. */
 #include "danivomel.h"
 
 #include <stdio.h>
@@ -56,11 +56,14 @@ static int same_table(const danivomel_range *found, const danivomel_range *expec
     return faults;
 }
 
-/* The specification's worked job: read, settled and reported, with an entry past the units. */
+/* The specification's worked job, and the same with the ranges that settling leaves. */
+#define WORKED_GROUPS "(group 10 (dev 4) (spread any) (of 1 2))\n(group 8 (dev any) (spread 4) (of 2 3))\n"
+static const char *const text = "(unit 0 10)\n(unit 0 10)\n(unit 0 10)\n" WORKED_GROUPS;
+static const char *const text_settled = "(unit 5 6)\n(unit 4 5)\n(unit 3 4)\n" WORKED_GROUPS;
+
+/* The worked job read, settled and reported, with an entry past the units. */
 static int known_job(void) {
     static uint8_t buffer[65536];
-    const char *text = "(unit 0 10)\n(unit 0 10)\n(unit 0 10)\n"
-                       "(group 10 (dev 4) (spread any) (of 1 2))\n(group 8 (dev any) (spread 4) (of 2 3))\n";
     const char *report = "(settled 3)\n(unit 1 5 6)\n(unit 2 4 5)\n(unit 3 3 4)\n"
                          "(group 1 5 0 0 (plan 5 5))\n(group 2 4 0 0 (plan 4 4))\n";
     const danivomel_range spare = {99, 98};
@@ -83,8 +86,50 @@ static int known_job(void) {
     return faults + same("report", memcmp(buffer, report, strlen(report)) == 0, 1);
 }
 
+/* A refusal of writing: its number and place, and length 0. */
+static int same_refusal(danivomel_written found, uint64_t number, uint64_t place) {
+    return same("refusal", found.refusal.number, number) + same("place", found.refusal.place, place) +
+           same("length", found.length, 0);
+}
+
+/* The worked job written with its settled table, with an entry past the units. */
+static int known_text(void) {
+    const danivomel_range settled[4] = {{5, 6}, {4, 5}, {3, 4}, {99, 98}};
+    danivomel_range table[4];
+    uint8_t buffer[200];
+    size_t length = strlen(text_settled);
+    memcpy(table, settled, sizeof table);
+    memset(buffer, 0xa5, sizeof buffer);
+    danivomel_written found = danivomel_write((const uint8_t *)text, strlen(text), table, 4, buffer, length);
+    int faults = same("refusal", found.refusal.number, DANIVOMEL_DONE) + same("place", found.refusal.place, 0);
+    faults += same("length", found.length, length) + same_table(table, settled, 4);
+    faults += same("text", memcmp(buffer, text_settled, length) == 0, 1);
+    return faults + same("byte past the text", buffer[length], 0xa5);
+}
+
+/* Every kind of refusal of writing that job, and the buffer after them. */
+static int refused_texts(void) {
+    danivomel_range table[3] = {{5, 6}, {4, 5}, {3, 4}};
+    uint8_t buffer[200];
+    const uint8_t *job = (const uint8_t *)text;
+    size_t length = strlen(text);
+    memset(buffer, 0xa5, sizeof buffer);
+    int faults = same_refusal(danivomel_write(job, length - 1, table, 3, buffer, 200), DANIVOMEL_NOT_IN_FORM, 5);
+    faults += same_refusal(danivomel_write(job, 0, table, 3, buffer, 200), DANIVOMEL_NO_UNITS, 0);
+    faults += same_refusal(danivomel_write(job, length, table, 2, buffer, 200), DANIVOMEL_BAD_LISTS, 0);
+    faults += same_refusal(danivomel_write(job, length, table, 3, buffer, 8), DANIVOMEL_BAD_LISTS, 0);
+    table[1].low = 6;
+    faults += same_refusal(danivomel_write(job, length, table, 3, buffer, 200), DANIVOMEL_LOW_ABOVE_HIGH, 2);
+    table[2].high = 1000001;
+    faults += same_refusal(danivomel_write(job, length, table, 3, buffer, 200), DANIVOMEL_BEYOND_RANGE, 3);
+    for (size_t i = 0; i < sizeof buffer; i++) {
+        faults += same("byte after the refusals", buffer[i], 0xa5);
+    }
+    return faults;
+}
+
 int main(void) {
-    int faults = known_share() + known_ranges() + known_job();
+    int faults = known_share() + known_ranges() + known_job() + known_text() + refused_texts();
     printf("c: %s\n", faults == 0 ? "linked, known answers hold" : "FAILED");
     return faults != 0;
 }

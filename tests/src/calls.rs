@@ -17,6 +17,18 @@ pub type Settle = fn(&[u8], &mut [Range], &mut [u64]) -> Result<u64, Unsettled>;
 /// Settles likewise and writes the report into a buffer; answers the report's length and the passes.
 pub type Report = fn(&[u8], &mut [Range], &mut [u64], &mut [u8]) -> Result<Reported, Unsettled>;
 
+/// Writes the job of a text with the ranges of a table into a buffer; answers the length of what is written.
+pub type Write = fn(&[u8], &[Range], &mut [u8]) -> Result<usize, Refusal>;
+
+/// The calls of a planner on a job text.
+#[derive(Clone, Copy)]
+pub struct OnTexts {
+    pub read: Read,
+    pub settle: Settle,
+    pub report: Report,
+    pub write: Write,
+}
+
 /// Whether both figures are within the limits.
 pub fn met(limits: Limits, deviation: Deviation, spread: Spread) -> bool {
     allows(limits.deviation, deviation.0) && allows(limits.spread, spread.0)

@@ -1,6 +1,7 @@
 //! Runs all tests, in the repository's folder and with what tests/run builds there. An argument is the seed that the
 //! topics draw theirs from.
 
+use danivomel_tests::calls::OnTexts;
 use danivomel_tests::check::Checks;
 use danivomel_tests::topics::{linked, program};
 use danivomel_tests::{independent, topics};
@@ -26,8 +27,9 @@ fn main() -> ExitCode {
 
 /// The seed, 1 where none is given; or what is wrong with the call.
 fn seed_if_ready() -> Result<u64, String> {
-    let built = [program::SETTLE, linked::C_PROGRAM, linked::PRESS].into_iter().chain(linked::EVENINGS);
-    if let Some(missing) = built.into_iter().find(|path| !Path::new(path).is_file()) {
+    let programs = [program::SETTLE.path, program::HAND_ON.path, linked::C_PROGRAM, linked::PRESS];
+    let mut built = programs.into_iter().chain(linked::EVENINGS).chain(linked::HANDED_ON);
+    if let Some(missing) = built.find(|path| !Path::new(path).is_file()) {
         return Err(format!("{missing} is not there; tests/run builds it"));
     }
     match std::env::args_os().nth(1) {
@@ -55,6 +57,15 @@ fn independent_planner(checks: &mut Checks) {
     topics::calls::run_settle(checks, who, independent::settle);
     topics::report::run(checks, who, independent::report);
     topics::calls::run_report(checks, who, independent::report);
+    topics::write::run(checks, who, independent::write);
+    topics::calls::run_write(checks, who, independent::write);
+    let planner = OnTexts {
+        read: independent::read,
+        settle: independent::settle,
+        report: independent::report,
+        write: independent::write,
+    };
+    topics::handed::run(checks, who, planner);
 }
 
 /// The proved planner against brute force and against the independent planner.
@@ -77,4 +88,14 @@ fn proved_planner(checks: &mut Checks) {
     topics::report::run(checks, who, danivomel::report);
     topics::report::compare(checks, who, danivomel::report);
     topics::calls::run_report(checks, who, danivomel::report);
+    topics::write::run(checks, who, danivomel::write);
+    topics::write::compare(checks, who, danivomel::write);
+    topics::calls::run_write(checks, who, danivomel::write);
+    let planner = OnTexts {
+        read: danivomel::read,
+        settle: danivomel::settle,
+        report: danivomel::report,
+        write: danivomel::write,
+    };
+    topics::handed::run(checks, who, planner);
 }

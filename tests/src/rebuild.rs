@@ -1,7 +1,8 @@
 //! A second reader of job texts, to judge the independent one: it takes a line's words apart loosely, prints the line
-//! anew from them, and compares the bytes.
+//! anew from them, and compares the bytes. And a second writer: it puts other unit lines into a text, and leaves the
+//! group lines as they stand.
 
-use danivomel::Refusal;
+use danivomel::{Range, Refusal};
 
 /// A number as its digits; compared by length first, so of any size.
 #[derive(Clone, Debug, PartialEq, Eq, PartialOrd, Ord)]
@@ -48,6 +49,30 @@ pub fn read(text: &[u8]) -> Result<(u64, u64), Refusal> {
         return Err(Refusal { number: 10, place: 0 });
     }
     Ok((state.units, state.groups))
+}
+
+/// A text with the ranges of a table in its unit lines, or the refusal of writing it to so many bytes.
+pub fn write(text: &[u8], table: &[Range], buffer: usize) -> Result<Vec<u8>, Refusal> {
+    let units = read(text)?.0 as usize;
+    if units > table.len() {
+        return Err(Refusal { number: 1, place: 0 });
+    }
+    let first = |wrong: fn(&Range) -> bool| table[..units].iter().position(wrong).map(|unit| unit as u64 + 1);
+    if let Some(place) = first(|range| range.low.max(range.high) > 1_000_000) {
+        return Err(Refusal { number: 4, place });
+    }
+    if let Some(place) = first(|range| range.low > range.high) {
+        return Err(Refusal { number: 7, place });
+    }
+    let mut lines: Vec<Vec<u8>> = text.split_inclusive(|&byte| byte == 10).map(<[u8]>::to_vec).collect();
+    for (line, range) in lines.iter_mut().zip(&table[..units]) {
+        *line = format!("(unit {} {})\n", range.low, range.high).into_bytes();
+    }
+    let whole = lines.concat();
+    if whole.len() > buffer {
+        return Err(Refusal { number: 1, place: 0 });
+    }
+    Ok(whole)
 }
 
 /// The lowest refusal of a line, where it has one.

@@ -7,9 +7,35 @@ pub mod paper;
 pub mod read;
 pub mod report;
 pub mod settle;
+pub mod write;
 
+use crate::jobs::job;
+use danivomel::Range;
+use danivomel_tests::calls;
 use danivomel_tests::cases::groups::GroupCase;
+use danivomel_tests::cases::jobs::print_job;
 use danivomel_tests::independent::reader::Group;
+use danivomel_tests::independent::{self, SCRATCH_PER_UNIT};
+
+/// The random jobs that are settled before they are timed: how many groups, and of how many members.
+pub const SETTLED: [(usize, usize); 3] = [(8, 8), (64, 8), (16, 256)];
+
+/// A job's text and its settled table.
+pub struct Settled {
+    pub text: Vec<u8>,
+    pub table: Vec<Range>,
+}
+
+impl Settled {
+    /// A random job, settled.
+    pub fn of(groups: usize, n: usize) -> Settled {
+        let job = job(groups, n);
+        let (text, mut table) = (print_job(&job), calls::table(&job.lows, &job.highs));
+        let mut scratch = vec![0; SCRATCH_PER_UNIT * table.len()];
+        independent::settle(&text, &mut table, &mut scratch).expect("the job settles");
+        Settled { text, table }
+    }
+}
 
 /// A group by itself, as the only one of a job.
 pub fn lone(case: &GroupCase) -> Group {

@@ -1,28 +1,21 @@
 //! Reporting: a job that is settled already, so that one quiet pass and the report are timed.
 
 use crate::check::same;
-use crate::jobs::job;
 use crate::planners::{BISECTION, PLANNER, REPORTS};
 use crate::table::{digits, Table};
 use crate::timing::{in_turn, Contender};
-use danivomel::{Range, Reported};
-use danivomel_tests::calls::{self, Report};
-use danivomel_tests::cases::jobs::print_job;
+use crate::work::{Settled, SETTLED};
+use danivomel::Reported;
+use danivomel_tests::calls::Report;
 use danivomel_tests::independent::{self, MOST_BYTES, SCRATCH_PER_UNIT};
 use std::hint::black_box;
-
-/// A job's text and its settled table.
-struct Settled {
-    text: Vec<u8>,
-    table: Vec<Range>,
-}
 
 /// Times reporting.
 pub fn run() -> Table {
     let head = ["job", "report, bytes", "planner, µs", "plain Rust, bisection, µs", "planner / plain Rust"];
     let mut table = Table::new("report", &head);
-    for (groups, n) in [(8, 8), (64, 8), (16, 256)] {
-        let settled = settled(groups, n);
+    for (groups, n) in SETTLED {
+        let settled = Settled::of(groups, n);
         let mut buffer = vec![0; MOST_BYTES];
         let expected = settled.report(independent::report, &mut buffer);
         let contenders = REPORTS.iter().map(|who| contender(*who, &settled, expected, &buffer)).collect();
@@ -36,15 +29,6 @@ pub fn run() -> Table {
         ]);
     }
     table
-}
-
-/// A random job, settled.
-fn settled(groups: usize, n: usize) -> Settled {
-    let job = job(groups, n);
-    let (text, mut table) = (print_job(&job), calls::table(&job.lows, &job.highs));
-    let mut scratch = vec![0; SCRATCH_PER_UNIT * table.len()];
-    independent::settle(&text, &mut table, &mut scratch).expect("the job settles");
-    Settled { text, table }
 }
 
 impl Settled {

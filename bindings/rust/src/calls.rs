@@ -1,6 +1,8 @@
-//! The five calls.
+//! The six calls.
 
-use crate::foreign::{danivomel_level, danivomel_narrow, danivomel_read, danivomel_report, danivomel_settle};
+use crate::foreign::{
+    danivomel_level, danivomel_narrow, danivomel_read, danivomel_report, danivomel_settle, danivomel_write,
+};
 use crate::{Counts, Levelled, Limits, Range, Refusal, Reported, Unsettled};
 
 /// A refusal as an error, and number 0 as none.
@@ -151,4 +153,37 @@ pub fn report(text: &[u8], table: &mut [Range], scratch: &mut [u64], buffer: &mu
     };
     accepted(answer.refusal).map_err(|refusal| Unsettled { refusal, passes: answer.passes })?;
     Ok(Reported { length: answer.length, passes: answer.passes })
+}
+
+/// Writes a job as a job text to the start of the buffer: the unit lines hold the ranges of the table, the group lines
+/// are those of the text. Answers the length of what is written; bytes past it keep their values. Entries past the units
+/// are not looked at.
+///
+/// What is written reads as the same job with the table's ranges, and a settled job that was written settles in one
+/// pass. A buffer of [`WRITTEN_BYTES`](crate::WRITTEN_BYTES) bytes takes every job.
+///
+/// # Errors
+///
+/// As [`read`] does; then 4, then 7 for the table's ranges, place the first such unit; then 1 for a buffer shorter than
+/// what is to be written. The buffer is then as it was.
+///
+/// ```
+/// use danivomel::{settle, write, Range, WRITTEN_BYTES};
+/// let job = b"(unit 0 10)\n(unit 0 10)\n(group 10 (dev 4) (spread any) (of 1 2))\n";
+/// let mut table = [Range { low: 0, high: 10 }; 2];
+/// settle(job, &mut table, &mut [0; 16]).unwrap();
+/// let mut buffer = [0; WRITTEN_BYTES];
+/// let length = write(job, &table, &mut buffer).unwrap();
+/// let settled = b"(unit 4 6)\n(unit 4 6)\n(group 10 (dev 4) (spread any) (of 1 2))\n";
+/// assert_eq!(buffer[..length], settled[..]);
+/// assert_eq!(settle(settled, &mut table, &mut [0; 16]), Ok(1));
+/// assert_eq!(write(job, &table, &mut buffer[..length - 1]).unwrap_err().number, 1);
+/// ```
+pub fn write(text: &[u8], table: &[Range], buffer: &mut [u8]) -> Result<usize, Refusal> {
+    // SAFETY: as for reading, but it is the buffer that is written and borrowed mutably, and the table is only read.
+    let answer = unsafe {
+        danivomel_write(text.as_ptr(), text.len(), table.as_ptr(), table.len(), buffer.as_mut_ptr(), buffer.len())
+    };
+    accepted(answer.refusal)?;
+    Ok(answer.length)
 }

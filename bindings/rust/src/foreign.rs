@@ -63,6 +63,13 @@ pub struct ForeignReported {
     pub length: usize,
 }
 
+/// What writing answers.
+#[repr(C)]
+pub struct ForeignWritten {
+    pub refusal: Refusal,
+    pub length: usize,
+}
+
 extern "C" {
     pub fn danivomel_level(
         lows: *const u64,
@@ -104,4 +111,13 @@ extern "C" {
         buffer: *mut u8,
         buffer_count: usize,
     ) -> ForeignReported;
+
+    pub fn danivomel_write(
+        text: *const u8,
+        text_count: usize,
+        table: *const Range,
+        table_count: usize,
+        buffer: *mut u8,
+        buffer_count: usize,
+    ) -> ForeignWritten;
 }

@@ -1,8 +1,8 @@
 //! Even shares of a total over the units of a group, by proved code: safe calls over the functions of libplanner.a.
 //!
-//! [`level`] and [`narrow`] work on the lists of one group; [`read`], [`settle`] and [`report`] on a job text and a table
-//! of its units' ranges. README.md says how to build with this package, docs/USER-GUIDE.md what a job text and a report
-//! are.
+//! [`level`] and [`narrow`] work on the lists of one group; [`read`], [`settle`], [`report`] and [`write()`] on a job
+//! text and a table of its units' ranges. README.md says how to build with this package, docs/USER-GUIDE.md what a job
+//! text and a report are.
 //!
 //! Every call takes any lists, tables and numbers, and refuses what is not allowed; a refusal changes no list and no
 //! table, the scratch aside. Past what a call writes, they keep their values. The calls use no heap and no global state,
@@ -29,7 +29,7 @@ mod foreign;
 mod refusal;
 
 pub use answers::{Counts, Deviation, Levelled, Limit, Limits, Range, Reported, Spread};
-pub use calls::{level, narrow, read, report, settle};
+pub use calls::{level, narrow, read, report, settle, write};
 pub use refusal::{Refusal, Unsettled};
 
 /// The most units of a job, and the most members of a group: a table of so many entries takes every job.
@@ -40,6 +40,9 @@ pub const SCRATCH_PER_UNIT: usize = 8;
 
 /// The fewest bytes of a report's buffer; every report fits.
 pub const BUFFER_BYTES: usize = 65_536;
+
+/// The most bytes that are ever written of a job as a job text: a buffer of so many takes every job.
+pub const WRITTEN_BYTES: usize = 26_752;
 
 /// Runs the examples of README.md.
 #[cfg(doctest)]

@@ -1,5 +1,6 @@
-//! Random cases: groups, jobs and damaged job texts.
+//! Random cases: groups, jobs, tables lent for them, and damaged job texts.
 
 pub mod damage;
 pub mod groups;
 pub mod jobs;
+pub mod tables;

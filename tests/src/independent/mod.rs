@@ -6,12 +6,14 @@ pub mod narrow;
 pub mod reader;
 pub mod report;
 pub mod settle;
+pub mod write;
 
 pub use level::level;
 pub use narrow::narrow;
 pub use reader::read;
 pub use report::{program, refusal_line, report};
 pub use settle::settle;
+pub use write::{hand_on, write};
 
 /// The greatest share.
 pub const GREATEST_SHARE: u64 = 1_000_000;

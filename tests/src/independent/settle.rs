@@ -37,10 +37,15 @@ fn check_job(text: &[u8], table: &[Range], scratch: usize) -> Result<Job, Refusa
     if table.len() < units || scratch < SCRATCH_PER_UNIT * units {
         return Err(Refusal { number: 1, place: 0 });
     }
-    let (lows, highs) = lists(&table[..units]);
-    check_numbers(&lows, &highs)?;
-    check_order(&lows, &highs)?;
+    check_ranges(&table[..units])?;
     Ok(job)
+}
+
+/// Refusals 4, then 7 for ranges of a table.
+pub fn check_ranges(ranges: &[Range]) -> Result<(), Refusal> {
+    let (lows, highs) = lists(ranges);
+    check_numbers(&lows, &highs)?;
+    check_order(&lows, &highs)
 }
 
 /// Settles ranges that were checked; where a group has no plan, they are left as the turns before made them.

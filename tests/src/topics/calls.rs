@@ -3,8 +3,8 @@
 
 use super::faults::{each_combination, fault, Fault};
 use super::{marks, with_spare};
-use crate::calls::{Read, Report, Settle};
-use crate::check::Checks;
+use crate::calls::{Read, Report, Settle, Write};
+use crate::check::{Checks, Topic};
 use danivomel::{Range, Refusal, Unsettled};
 
 /// What a call on a job text gets.
@@ -59,10 +59,46 @@ pub fn run_report(checks: &mut Checks, who: &str, report: Report) {
     });
 }
 
+/// Tries a planner's refusals of writing; and those of every kind of text ahead of every set of other faults.
+pub fn run_write(checks: &mut Checks, who: &str, write: Write) {
+    checks.topic("write, refusals in every combination", who, |topic| {
+        let call = Call { buffer: WRITTEN.len(), ..sound() };
+        let mut faults = table_faults();
+        faults.extend(range_faults());
+        faults.push(fault(1, 0, |call| call.buffer = call.buffer.saturating_sub(1)));
+        faults.push(fault(1, 0, |call| call.buffer = 0));
+        for (number, place, text) in bad_texts() {
+            let refusal = Refusal { number, place };
+            let refused = |topic: &mut Topic, call: &Call| {
+                refused_writing(topic, write, &Call { text: text.clone(), ..call.clone() }, refusal);
+            };
+            refused(topic, &call);
+            each_combination(&call, &faults, |call, _| refused(topic, call));
+        }
+        let all: Vec<Fault<Call>> = text_faults().into_iter().chain(faults).collect();
+        each_combination(&call, &all, |call, refusal| refused_writing(topic, write, call, refusal));
+        let mut buffer = vec![0xa5; call.buffer];
+        let found = write(call.text.as_bytes(), &call.table, &mut buffer);
+        topic.same(&call, "length without a fault", found, Ok(WRITTEN.len()));
+        topic.same(&call, "buffer without a fault", &buffer[..], WRITTEN.as_bytes());
+    });
+}
+
+/// Checks a refusal of writing, and that the table and every byte of the buffer kept their values.
+fn refused_writing(topic: &mut Topic, write: Write, call: &Call, refusal: Refusal) {
+    let (table, mut buffer) = (call.table.clone(), vec![0xa5; call.buffer]);
+    topic.same(call, "refusal", write(call.text.as_bytes(), &table, &mut buffer), Err(refusal));
+    topic.same(call, "table after the refusal", &table, &call.table);
+    topic.holds(call, "buffer after the refusal", buffer == vec![0xa5; call.buffer]);
+}
+
 /// A refusal of settling; one for want of a plan comes in the first pass.
 fn in_pass_one(refusal: Refusal) -> Unsettled {
     Unsettled { refusal, passes: u64::from(refusal.number > 10) }
 }
+
+/// What is written for the call without a fault.
+const WRITTEN: &str = "(unit 1 20)\n(unit 0 20)\n(unit 14 20)\n(group 21 (dev any) (spread any) (of 3 2))\n";
 
 /// A call without a fault, on a table other than the unit lines.
 fn sound() -> Call {
@@ -76,10 +112,7 @@ fn settle_faults() -> Vec<Fault<Call>> {
     let mut faults = text_faults();
     faults.extend(table_faults());
     faults.push(fault(1, 0, |call| call.scratch = 23));
-    faults.push(fault(4, 1, |call| call.table[0].low = 1_000_001));
-    faults.push(fault(4, 3, |call| call.table[2].high = u64::MAX));
-    faults.push(fault(7, 1, |call| call.table[0].high = 0));
-    faults.push(fault(7, 2, |call| call.table[1].low = 21));
+    faults.extend(range_faults());
     faults.push(fault(11, 1, |call| call.text = call.text.replace("group 21", "group 41")));
     faults.push(fault(12, 1, |call| call.text = call.text.replace("dev any", "dev 13")));
     faults
@@ -91,6 +124,32 @@ fn text_faults() -> Vec<Fault<Call>> {
         fault(2, 0, |call| call.text.push_str(&"(".repeat(65_536))),
         fault(7, 2, |call| call.text = call.text.replacen("9)\n(unit 0 9", "9)\n(unit 9 0", 1)),
         fault(3, 5, |call| call.text.push_str("(unit 0 0)")),
+    ]
+}
+
+/// Texts with one fault each, with its number and place.
+fn bad_texts() -> Vec<(u64, u64, String)> {
+    let group = |of: &str| format!("(unit 0 9)\n(group 1 (dev any) (spread any) (of {of}))\n");
+    vec![
+        (2, 0, "(".repeat(65_537)),
+        (3, 2, "(unit 0 9)\n(unit 0 9)".to_string()),
+        (4, 1, "(unit 0 1000001)\n".to_string()),
+        (5, 3, group("1") + "(unit 0 9)\n"),
+        (6, 257, "(unit 0 9)\n".repeat(257)),
+        (7, 1, "(unit 9 0)\n".to_string()),
+        (8, 2, group("2")),
+        (9, 2, group("1 1")),
+        (10, 0, String::new()),
+    ]
+}
+
+/// Ranges of the table that are not allowed.
+fn range_faults() -> Vec<Fault<Call>> {
+    vec![
+        fault(4, 1, |call| call.table[0].low = 1_000_001),
+        fault(4, 3, |call| call.table[2].high = u64::MAX),
+        fault(7, 1, |call| call.table[0].high = 0),
+        fault(7, 2, |call| call.table[1].low = 21),
     ]
 }
 

@@ -1,4 +1,4 @@
-//! The independent planner's own parts that no call shows: the groups it reads, and what its program writes.
+//! The independent planner's own parts that no call shows: the groups it reads, and what its programs write.
 
 use super::read::Shown;
 use super::report::WORKED_REPORT;
@@ -6,12 +6,13 @@ use super::settle::{PAIRS, WORKED};
 use crate::cases::damage::damage;
 use crate::cases::jobs::{print_job, sound, MIDDLE, TINY};
 use crate::check::{Checks, Topic};
-use crate::independent::{program, reader::read_job};
+use crate::independent::{hand_on, program, reader::read_job};
 
-/// Tries the independent planner's reader and program.
+/// Tries the independent planner's reader and programs.
 pub fn run(checks: &mut Checks) {
     checks.topic("reading and printing", "independent", printed);
     checks.topic("program", "independent", programs);
+    checks.topic("program hand_on", "independent", handed_on);
 }
 
 /// What is printed reads as the same job, and whatever reads as a job is what is printed for it.
@@ -48,5 +49,23 @@ fn programs(topic: &mut Topic) {
             String::from_utf8_lossy(&program(text.as_bytes())),
             written.into(),
         );
+    }
+}
+
+/// The worked job settled, jobs that are at rest as they stand, and the same refusal lines.
+fn handed_on(topic: &mut Topic) {
+    let worked = WORKED.replacen(&"(unit 0 10)\n".repeat(3), "(unit 5 6)\n(unit 4 5)\n(unit 3 4)\n", 1);
+    let refused = WORKED.replacen("0 10", "7 10", 1);
+    let cases = [
+        (WORKED, &*worked),
+        (&worked, &worked),
+        (PAIRS, PAIRS),
+        ("(unit 3 8)\n", "(unit 3 8)\n"),
+        (&refused, "(refused 12 1)\n"),
+        ("", "(refused 10 0)\n"),
+        ("(unit 0 10)", "(refused 3 1)\n"),
+    ];
+    for (text, written) in cases {
+        topic.same(&text, "written", String::from_utf8_lossy(&hand_on(text.as_bytes())), written.into());
     }
 }

@@ -1,5 +1,5 @@
-//! What is linked with the archive: programs in C over the header, the evening's change from C and from Rust, and the
-//! documentation examples and the words of the package for Rust.
+//! What is linked with the archive: programs in C over the header, the evening's change and the job handed on from C
+//! and from Rust, and the documentation examples and the words of the package for Rust.
 
 use crate::check::{Checks, Topic};
 use danivomel::Refusal;
@@ -11,6 +11,8 @@ pub const C_PROGRAM: &str = "tests/target/link";
 pub const PRESS: &str = "tests/target/press";
 /// The evening's change from C and from Rust, likewise.
 pub const EVENINGS: [&str; 2] = ["tests/target/evening", "tests/target/release/examples/evening"];
+/// The evening's job handed on from C and from Rust, likewise.
+pub const HANDED_ON: [&str; 2] = ["tests/target/handed_on", "tests/target/release/examples/handed_on"];
 
 /// Tries all of them.
 pub fn run(checks: &mut Checks) {
@@ -25,7 +27,8 @@ pub fn run(checks: &mut Checks) {
         );
     });
     checks.topic("press from C", "planner", press);
-    checks.topic("evening's change, from C and Rust", "planner", evenings);
+    checks.topic("evening's change, from C and Rust", "planner", |topic| changes(topic, EVENINGS, "evening"));
+    checks.topic("job handed on, from C and Rust", "planner", |topic| changes(topic, HANDED_ON, "handed_on"));
     checks.topic("documentation examples", "planner", documentation);
     checks.topic("refusals in words", "planner", words);
 }
@@ -43,19 +46,20 @@ fn press(topic: &mut Topic) {
     topic.same(&PRESS, "written", (String::from_utf8_lossy(&run.stdout), run.status.success()), (lines.into(), true));
 }
 
-/// Both programs write what examples/evening.txt has, and a wrong call gets one line and a status.
-fn evenings(topic: &mut Topic) {
-    let expected = std::fs::read_to_string("examples/evening.txt").expect("the example is read");
+/// Both programs write what the example's file has, and a wrong call gets one line and a status.
+fn changes(topic: &mut Topic, programs: [&str; 2], name: &str) {
+    let expected = std::fs::read_to_string(format!("examples/{name}.txt")).expect("the example is read");
     let job = "examples/evening-before.job";
-    let wrong: [&[&str]; 6] = [
+    let wrong: [&[&str]; 7] = [
         &[],
         &["examples/none.job", "4", "20000"],
         &[job, "0", "20000"],
         &[job, "7", "20000"],
         &[job, "4", "many"],
         &["examples/refused/09-twice.job", "1", "1"],
+        &["examples/refused/11-total.job", "1", "1"],
     ];
-    for program in EVENINGS {
+    for program in programs {
         let right = output(program, &[job, "4", "20000"]);
         topic.same(&program, "written", String::from_utf8_lossy(&right.stdout), expected.as_str().into());
         topic.holds(&program, "status of a right call", right.status.success());

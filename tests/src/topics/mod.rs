@@ -3,6 +3,7 @@
 
 pub mod calls;
 pub mod faults;
+pub mod handed;
 pub mod judge;
 pub mod level;
 pub mod lines;
@@ -14,6 +15,7 @@ pub mod read;
 pub mod report;
 pub mod settle;
 pub mod tables;
+pub mod write;
 
 use danivomel::Range;
 

@@ -1,11 +1,12 @@
-//! The program itself: what it writes for the examples and for texts that are too long, and for random jobs what the
-//! independent planner's program does.
+//! The programs themselves: what they write for the examples and for texts that are too long, and for random jobs what
+//! the independent planner's programs do; and jobs that go through both.
 
 use super::read::Shown;
+use super::write::long_job;
 use crate::cases::damage::damage;
 use crate::cases::jobs::{print_job, sound, MIDDLE, TINY};
 use crate::check::{Checks, Topic};
-use crate::independent::program;
+use crate::independent::{self, GREATEST_SHARE};
 use std::fs::File;
 use std::io::Write;
 use std::os::unix::io::OwnedFd;
@@ -13,77 +14,138 @@ use std::os::unix::net::UnixStream;
 use std::path::PathBuf;
 use std::process::{Command, Stdio};
 
-/// The program, which tests/run builds.
-pub const SETTLE: &str = "target/bin/settle";
-
-/// Tries the program, on the examples with their reports too.
-pub fn run(checks: &mut Checks) {
-    checks.topic("program, examples", "planner", each_example);
-    checks.topic("program, texts too long", "planner", too_long);
-    checks.topic("program, against the independent planner", "planner", random_jobs);
-    checks.topic("program, failed reads and writes", "planner", failures);
+/// A program, which tests/run builds.
+pub struct Program {
+    pub path: &'static str,
+    name: &'static str,
+    /// What the independent planner's writes for a text.
+    plain: fn(&[u8]) -> Vec<u8>,
 }
 
-/// What the program writes for a text.
-fn written(text: &[u8]) -> Vec<u8> {
+/// The program that writes reports.
+pub const SETTLE: Program = Program { path: "target/bin/settle", name: "settle", plain: independent::program };
+/// The program that writes settled jobs.
+pub const HAND_ON: Program = Program { path: "target/bin/hand_on", name: "hand_on", plain: independent::hand_on };
+
+/// Tries the programs, on the examples too.
+pub fn run(checks: &mut Checks) {
+    checks.topic("program settle, examples", "planner", reports);
+    checks.topic("program hand_on, examples", "planner", handed_on);
+    for program in [SETTLE, HAND_ON] {
+        let mut topic = |what: &str, run: fn(&mut Topic, &Program)| {
+            checks.topic(&format!("program {}, {what}", program.name), "planner", |topic| run(topic, &program));
+        };
+        topic("texts too long", too_long);
+        topic("against the independent planner", random_jobs);
+        topic("failed reads and writes", failures);
+    }
+    checks.topic("program settle, what hand_on writes", "planner", settled_again);
+}
+
+/// What a program writes for a text.
+fn written(program: &Program, text: &[u8]) -> Vec<u8> {
     let mut child =
-        Command::new(SETTLE).stdin(Stdio::piped()).stdout(Stdio::piped()).spawn().expect("the program starts");
+        Command::new(program.path).stdin(Stdio::piped()).stdout(Stdio::piped()).spawn().expect("the program starts");
     // A text of more than 65,536 bytes is refused before its end, so the program may close its input first.
     let _ = child.stdin.take().expect("the program has an input").write_all(text);
     child.wait_with_output().expect("the program ends").stdout
 }
 
-/// Each job of the examples with its report.
-fn each_example(topic: &mut Topic) {
+/// The jobs of the examples, by their paths.
+fn examples() -> Vec<(PathBuf, Vec<u8>)> {
+    let mut jobs = vec![];
     for folder in ["examples", "examples/refused"] {
-        let mut jobs: Vec<PathBuf> = std::fs::read_dir(folder)
-            .expect("the examples are there")
-            .map(|entry| entry.expect("an example").path())
-            .filter(|path| path.extension() == Some("job".as_ref()))
-            .collect();
-        jobs.sort();
-        for job in jobs {
-            let text = std::fs::read(&job).expect("the job is read");
-            // A report that is missing is compared as an empty one, which no program writes.
-            let report = std::fs::read(job.with_extension("report")).unwrap_or_default();
-            topic.same(&job, "report", Shown(&written(&text)), Shown(&report));
-            topic.same(&job, "report by the independent planner", Shown(&program(&text)), Shown(&report));
+        for entry in std::fs::read_dir(folder).expect("the examples are there") {
+            let path = entry.expect("an example").path();
+            if path.extension() == Some("job".as_ref()) {
+                let text = std::fs::read(&path).expect("the job is read");
+                jobs.push((path, text));
+            }
         }
     }
+    jobs.sort();
+    jobs
+}
+
+/// Each job of the examples with its report.
+fn reports(topic: &mut Topic) {
+    for (job, text) in examples() {
+        // A report that is missing is compared as an empty one, which no program writes.
+        let report = std::fs::read(job.with_extension("report")).unwrap_or_default();
+        topic.same(&job, "report", Shown(&written(&SETTLE, &text)), Shown(&report));
+        topic.same(&job, "report by the independent planner", Shown(&(SETTLE.plain)(&text)), Shown(&report));
+    }
+}
+
+/// Each job of the examples handed on; that of the evening is an example itself. And a long job that is at rest.
+fn handed_on(topic: &mut Topic) {
+    for (job, text) in examples() {
+        topic.same(&job, "written", Shown(&written(&HAND_ON, &text)), Shown(&(HAND_ON.plain)(&text)));
+    }
+    let [before, handed] =
+        ["before", "handed"].map(|name| std::fs::read(format!("examples/evening-{name}.job")).unwrap_or_default());
+    topic.same(&"evening-before.job", "written", Shown(&written(&HAND_ON, &before)), Shown(&handed));
+    let long = print_job(&long_job(GREATEST_SHARE, 64 * GREATEST_SHARE));
+    topic.same(&"a long job", "written", Shown(&written(&HAND_ON, &long)), Shown(&long));
 }
 
 /// Sound unit lines of one byte more than a text may have, and of many more.
-fn too_long(topic: &mut Topic) {
+fn too_long(topic: &mut Topic, program: &Program) {
     let lines = "(unit 0 10)\n".repeat(6_000);
     for length in [65_537, lines.len()] {
         let text = &lines.as_bytes()[..length];
-        topic.same(&length, "written", Shown(&written(text)), Shown(b"(refused 2 0)\n"));
+        topic.same(&length, "written", Shown(&written(program, text)), Shown(b"(refused 2 0)\n"));
     }
 }
 
+/// A random job's text.
+fn random_text(topic: &mut Topic) -> Vec<u8> {
+    let size = topic.random.one_of(&[TINY, MIDDLE]);
+    print_job(&sound(&mut topic.random, size))
+}
+
 /// Random jobs, sound and damaged.
-fn random_jobs(topic: &mut Topic) {
+fn random_jobs(topic: &mut Topic, program: &Program) {
     for round in 0..400 {
-        let size = topic.random.one_of(&[TINY, MIDDLE]);
-        let mut text = print_job(&sound(&mut topic.random, size));
+        let mut text = random_text(topic);
         if round % 2 == 1 {
             damage(&mut topic.random, &mut text);
         }
-        topic.same(&Shown(&text), "written", written(&text), program(&text));
+        topic.same(&Shown(&text), "written", written(program, &text), (program.plain)(&text));
+    }
+}
+
+/// Random jobs handed on settle in one pass to the same lines, and are handed on as they stand; refusals are the same.
+fn settled_again(topic: &mut Topic) {
+    for _ in 0..200 {
+        let text = random_text(topic);
+        let (report, handed) = (written(&SETTLE, &text), written(&HAND_ON, &text));
+        let case = Shown(&text);
+        if report.starts_with(b"(refused ") {
+            topic.same(&case, "refusal", Shown(&handed), Shown(&report));
+            continue;
+        }
+        let first = report.iter().position(|&byte| byte == b'\n').map_or(0, |end| end + 1);
+        let again = [&b"(settled 1)\n"[..], &report[first..]].concat();
+        topic.same(&case, "report of what is written", Shown(&written(&SETTLE, &handed)), Shown(&again));
+        topic.same(&case, "handed on again", Shown(&written(&HAND_ON, &handed)), Shown(&handed));
     }
 }
 
 /// A failed read or write: nothing on standard output, and one line on standard error that names the stream.
-fn failures(topic: &mut Topic) {
+fn failures(topic: &mut Topic, program: &Program) {
     let job = "examples/works.job";
-    let settle = || Command::new(SETTLE);
+    let command = || Command::new(program.path);
+    let [input, output] = ["input", "output"].map(|stream| format!("{}: standard {stream}: ", program.name));
     let directory = File::open("/").expect("a directory is opened");
-    fails(topic, "a directory as the input", settle().stdin(directory), "settle: standard input: ");
+    fails(topic, "a directory as the input", command().stdin(directory), &input);
     let cut = Stdio::from(cut_after(&std::fs::read(job).expect("the job is read")));
-    fails(topic, "an input that fails after a whole job", settle().stdin(cut), "settle: standard input: ");
-    let whole = File::open(job).expect("the job is opened");
-    let full = File::create("/dev/full").expect("/dev/full is opened");
-    fails(topic, "an output without room", settle().stdin(whole).stdout(full), "settle: standard output: ");
+    fails(topic, "an input that fails after a whole job", command().stdin(cut), &input);
+    for (case, job) in [("an output without room", job), ("one for a refusal", "examples/refused/09-twice.job")] {
+        let whole = File::open(job).expect("the job is opened");
+        let full = File::create("/dev/full").expect("/dev/full is opened");
+        fails(topic, case, command().stdin(whole).stdout(full), &output);
+    }
 }
 
 /// Checks that the program writes one line to standard error, which starts so, and nothing to an output that is caught.
