@@ -10,3 +10,4 @@ pub mod Answers
 pub mod Promises
 pub mod Handing
 pub mod Handed
+pub mod Onward

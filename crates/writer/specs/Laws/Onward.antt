@@ -1,0 +1,37 @@
+-- A settled job that is shut further settles as the job itself, shut alike. Assumes nothing.
+use mathlib.Core.List.{List}
+use mathlib.Core.Option.{some}
+use mathlib.Core.Path.{_≡_, refl, sym, ap, _∙_}
+use Prim.Native.Nat.{ℕ}
+use Rattle.model.specs.Groups.{Group}
+use Rattle.works.specs.Consistency.{SoundOpening, Consistent}
+use Rattle.works.specs.Laws.Inside.{inside-both, inside-trans}
+use Rattle.works.specs.Laws.Settled.{settled-inside, settled-consistent, settled-greatest, refused-exactly}
+use Rattle.works.specs.Settling.{Outcome, settledTable, settle}
+use Rattle.works.specs.Tables.{Table, Inside}
+
+-- a table that is settled, a table inside the opening one, and what the two have in common
+module _ {groups : List Group} {opening final : Table} {passes : ℕ} (sound : SoundOpening groups opening)
+    (settles : settle groups opening ≡ Outcome.settled final passes) {shut both : Table} (sound-shut : SoundOpening groups shut)
+    (inside : Inside shut opening) (sound-both : SoundOpening groups both) (within : Inside both shut)
+    (common : (inner : Table) → Inside inner shut → Inside inner final → Inside inner both) where
+  -- a consistent table inside the second lies in what they have in common
+  kept : (inner : Table) → Consistent groups inner → Inside inner shut → Inside inner both
+  kept inner consistent below = common inner below (settled-greatest sound settles inner consistent (inside-trans below inside))
+
+  -- settling either gives the same table, or both are refused for want of a plan
+  pub settled-onward : settledTable (settle groups shut) ≡ settledTable (settle groups both)
+  settled-onward = by-outcomes (settle groups shut) refl (settle groups both) refl
+    where
+      by-outcomes : (a : Outcome) → settle groups shut ≡ a → (b : Outcome) → settle groups both ≡ b → settledTable (settle groups shut) ≡ settledTable (settle groups both)
+      by-outcomes (Outcome.settled one p) a (Outcome.settled other q) b =
+          let up : Inside one other =
+          settled-greatest sound-both b one (settled-consistent sound-shut a) (kept one (settled-consistent sound-shut a) (settled-inside sound-shut a)) in
+          let down : Inside other one =
+          settled-greatest sound-shut a other (settled-consistent sound-both b) (inside-trans (settled-inside sound-both b) within) in
+          ap settledTable a ∙ ap some (inside-both up down) ∙ sym (ap settledTable b)
+      by-outcomes (Outcome.settled one p) a (Outcome.refused m j q) b =
+          absurd (refused-exactly sound-both .0 (ap settledTable b) one (settled-consistent sound-shut a) (kept one (settled-consistent sound-shut a) (settled-inside sound-shut a)))
+      by-outcomes (Outcome.refused m j p) a (Outcome.settled other q) b =
+          absurd (refused-exactly sound-shut .0 (ap settledTable a) other (settled-consistent sound-both b) (inside-trans (settled-inside sound-both b) within))
+      by-outcomes (Outcome.refused m j p) a (Outcome.refused n k q) b = ap settledTable a ∙ sym (ap settledTable b)
