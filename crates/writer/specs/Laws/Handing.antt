@@ -5,6 +5,7 @@ use mathlib.Core.Path.{_≡_, refl, sym, ap, _∙_}
 use lib.ListN.{length}
 use Rattle.job.specs.Job.{Job, JobOrRefusal, accepted, refused, readJob}
 use Rattle.job.specs.Laws.Sound.{accepted-sound}
+use Rattle.job.specs.Sound.{SoundJob}
 use Rattle.job.specs.TextLines.{linesOf}
 use Rattle.model.specs.Groups.{Group}
 use Rattle.report.specs.Laws.Cut.{report-cut}
@@ -54,16 +55,17 @@ pub same-handed-on : (text : List ℕ) → SameHandedOn text
 unfolding printedRead handedRead printed handedAfter
 same-handed-on text = by-text (readJob text) refl
   where
-    by-outcome : (found : Job) → readJob text ≡ accepted found → (outcome : Outcome) → settle (found .groups) (tableOf (found .lows) (found .highs)) ≡ outcome
-        → SameHandedOn text
+    by-outcome : (found : Job) → readJob text ≡ accepted found → (outcome : Outcome)
+        → settle (found .groups) (tableOf (found .lows) (found .highs)) ≡ outcome → SameHandedOn text
     by-outcome found reads (Outcome.refused number place passes) settles =
         SameHandedOn.line number place (printed-settles text found reads settles) (handed-settles text found reads settles)
     by-outcome found reads (Outcome.settled table passes) settles =
         let sound : SoundOpening (found .groups) (tableOf (found .lows) (found .highs)) =
         accepted-groups text found reads (accepted-sound text found reads .built .ranges) refl in
         let again : Job = jobWith (found .groups) table in
-        let reads-again : readJob (jobText again) ≡ accepted again =
-        text-accepted again (with-sound found (accepted-sound text found reads) table (settled-consistent sound settles .valid) (settled-inside sound settles .sameLows)) in
+        let sound-again : SoundJob again =
+        with-sound found (accepted-sound text found reads) table (settled-consistent sound settles .valid) (settled-inside sound settles .sameLows) in
+        let reads-again : readJob (jobText again) ≡ accepted again = text-accepted again sound-again in
         let settles-again : settle (found .groups) table ≡ Outcome.settled table 1 = settled-again sound settles in
         let handed : handedOn text ≡ jobText again = handed-settles text found reads settles in
         SameHandedOn.handed passes (unitLines 1 (table .lows) (table .highs) ++ groupLines 1 table (found .groups))

@@ -23,15 +23,20 @@ module _ {groups : List Group} {opening final : Table} {passes : ℕ} (sound : S
   pub settled-onward : settledTable (settle groups shut) ≡ settledTable (settle groups both)
   settled-onward = by-outcomes (settle groups shut) refl (settle groups both) refl
     where
-      by-outcomes : (a : Outcome) → settle groups shut ≡ a → (b : Outcome) → settle groups both ≡ b → settledTable (settle groups shut) ≡ settledTable (settle groups both)
+      below : {one : Table} {p : ℕ} → settle groups shut ≡ Outcome.settled one p → Inside one both
+      below a = kept _ (settled-consistent sound-shut a) (settled-inside sound-shut a)
+
+      above : {other : Table} {q : ℕ} → settle groups both ≡ Outcome.settled other q → Inside other shut
+      above b = inside-trans (settled-inside sound-both b) within
+
+      by-outcomes : (a : Outcome) → settle groups shut ≡ a → (b : Outcome) → settle groups both ≡ b
+          → settledTable (settle groups shut) ≡ settledTable (settle groups both)
       by-outcomes (Outcome.settled one p) a (Outcome.settled other q) b =
-          let up : Inside one other =
-          settled-greatest sound-both b one (settled-consistent sound-shut a) (kept one (settled-consistent sound-shut a) (settled-inside sound-shut a)) in
-          let down : Inside other one =
-          settled-greatest sound-shut a other (settled-consistent sound-both b) (inside-trans (settled-inside sound-both b) within) in
+          let up : Inside one other = settled-greatest sound-both b one (settled-consistent sound-shut a) (below a) in
+          let down : Inside other one = settled-greatest sound-shut a other (settled-consistent sound-both b) (above b) in
           ap settledTable a ∙ ap some (inside-both up down) ∙ sym (ap settledTable b)
       by-outcomes (Outcome.settled one p) a (Outcome.refused m j q) b =
-          absurd (refused-exactly sound-both .0 (ap settledTable b) one (settled-consistent sound-shut a) (kept one (settled-consistent sound-shut a) (settled-inside sound-shut a)))
+          absurd (refused-exactly sound-both .0 (ap settledTable b) one (settled-consistent sound-shut a) (below a))
       by-outcomes (Outcome.refused m j p) a (Outcome.settled other q) b =
-          absurd (refused-exactly sound-shut .0 (ap settledTable a) other (settled-consistent sound-both b) (inside-trans (settled-inside sound-both b) within))
+          absurd (refused-exactly sound-shut .0 (ap settledTable a) other (settled-consistent sound-both b) (above b))
       by-outcomes (Outcome.refused m j p) a (Outcome.refused n k q) b = ap settledTable a ∙ sym (ap settledTable b)

@@ -120,9 +120,6 @@ module _ {text lows highs : List ℕ} {scratch : ℕ} (cleared : Cleared text lo
   abbrev again : Cleared text (called cleared .lows) (called cleared .highs) scratch
   again = settled-cleared cleared settles
 
-  abbrev out : List ℕ
-  out = textIn size (writeText text (called cleared .lows) (called cleared .highs) buffer)
-
   -- the table that reading fills has the settled ranges
   pub settled-read : firstOf (count cleared) nextLows nextHighs ≡ after cleared
   settled-read = written-read again buffer is filled forLows forHighs .1
@@ -132,8 +129,11 @@ module _ {text lows highs : List ℕ} {scratch : ℕ} (cleared : Cleared text lo
   settled-rests = rw settled-read (called-consistent cleared settles)
 
   -- and settles in one pass, unchanged
-  pub settled-once : (room : ℕ) → 8 * count cleared ≤ room → settleText out nextLows nextHighs room ≡ settlement (Settled 1) nextLows nextHighs
+  pub settled-once : (room : ℕ) → 8 * count cleared ≤ room
+      → settleText (textIn size (writeText text (called cleared .lows) (called cleared .highs) buffer)) nextLows nextHighs room
+      ≡ settlement (Settled 1) nextLows nextHighs
   settled-once room long =
+      let out : List ℕ = textIn size (writeText text (called cleared .lows) (called cleared .highs) buffer) in
       let opened : Opened out nextLows nextHighs room = filled-opens filled (written-read again buffer is filled forLows forHighs .0) room long in
       let job-is : accepted (opened .cleared .found) ≡ accepted (lentJob again) = sym (opened .cleared .reads) ∙ written-accepted again buffer is in
       let same : opened .cleared .found ≡ lentJob again = cc in

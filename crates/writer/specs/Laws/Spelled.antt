@@ -65,7 +65,8 @@ line-more job (group g) paired good =
     let no-refusal = first-zero head (membersVerdict (length (job .lows)) numbers) good in
     let named-all = members-good (length (job .lows)) numbers (no-refusal .1) .all-named in
     let printed : memberLine (groupOf g) ≡ printLine (group g) = rw (numbers-again (length (job .lows)) numbers named-all) in
-    rw (groups-snoc (job .groups) (groupOf g), printed) (sym (append-assoc (rangeLines (job .lows) (job .highs)) (map memberLine (job .groups)) (printLine (group g) ∷ [])))
+    rw (groups-snoc (job .groups) (groupOf g), printed)
+    (sym (append-assoc (rangeLines (job .lows) (job .highs)) (map memberLine (job .groups)) (printLine (group g) ∷ [])))
 
 -- it keeps lows and highs in pairs
 still-paired : (job : Job) (l : Line) → length (job .highs) ≡ length (job .lows) → length (add job l .highs) ≡ length (add job l .lows)

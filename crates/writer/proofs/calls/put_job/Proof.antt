@@ -35,7 +35,10 @@ put-member-lines-requires c κs =
     let start = first .before .before .before .before .before .before in
     let sound = start .pre .1 .0 in (
       start .pre .0,
-      (accepted-more (sound .built .few-units) (sound .built .groups-sound), room-next (next (parts sound (start .pre .1 .1)) (first .put-range-lines .ensures))),
+      (
+        accepted-more (sound .built .few-units) (sound .built .groups-sound),
+        room-next (next (parts sound (start .pre .1 .1)) (first .put-range-lines .ensures)),
+      ),
     )
 
 same-length : tie.Need-same-length

@@ -47,7 +47,8 @@ returns-2 c =
     let line = c .before .before in
     let told = line .before .before .before in
     let from = told .before .before .before .before .before .before .pre .0 in
-    refusal-printed (refused-hands (from .opened) (from .settles) (told .answer .given .1)) refl (line .refusal-line .ensures .0) (line .refusal-line .ensures .1)
+    let handed = refused-hands (from .opened) (from .settles) (told .answer .given .1) in
+    refusal-printed handed refl (line .refusal-line .ensures .0) (line .refusal-line .ensures .1)
 
 same-length-3 : tie.Need-same-length-3
 same-length-3 c = search needs

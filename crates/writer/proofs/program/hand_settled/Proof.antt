@@ -10,8 +10,7 @@ settle-requires c κs = search needs
 hand-answer-requires : tie.Need-hand-answer-requires
 hand-answer-requires c κs =
     let call = c .before .before .before .before .before .before .before .before .before in
-    let start = call .before .before .before .before .before .before .before .before .before in
-    (
+    let start = call .before .before .before .before .before .before .before .before .before in (
       record {
         lows₀ = start .args .lows .now;
         highs₀ = start .args .highs .now;
