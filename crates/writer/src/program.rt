@@ -26,6 +26,7 @@ fn write_settled(text: &[u8], lows: &[u64], highs: &[u64], buffer: &mut [u8]) ->
 {
     match write(text, lows, highs, buffer) {
         Writing::Written(length) => length,
+        // Does not come: what settling left passes the checks, and the text fits.
         Writing::Refused(_) => 0,
     }
 }
@@ -46,6 +47,7 @@ fn hand_answer(
     match answer {
         Settling::Settled(_) => write_settled(text, lows, highs, buffer),
         Settling::NoPlan { number, place, .. } => refusal_line(number, place, buffer),
+        // Does not come: the ranges of the unit lines pass the checks.
         Settling::Refused(refusal) => refusal_line(refusal.number, refusal.place, buffer),
     }
 }

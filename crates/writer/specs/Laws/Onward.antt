@@ -1,4 +1,4 @@
--- A settled job that is shut further settles as the job itself, shut alike. Assumes nothing.
+-- A settled job that is changed to allow less settles as the job itself with that change. Assumes nothing.
 use mathlib.Core.List.{List}
 use mathlib.Core.Option.{some}
 use mathlib.Core.Path.{_≡_, refl, sym, ap, _∙_}
@@ -10,27 +10,28 @@ use Rattle.works.specs.Laws.Settled.{settled-inside, settled-consistent, settle
 use Rattle.works.specs.Settling.{Outcome, settledTable, settle}
 use Rattle.works.specs.Tables.{Table, Inside}
 
--- a table that is settled, a table inside the opening one, and what the two have in common
-module _ {groups : List Group} {opening final : Table} {passes : ℕ} (sound : SoundOpening groups opening)
-    (settles : settle groups opening ≡ Outcome.settled final passes) {shut both : Table} (sound-shut : SoundOpening groups shut)
-    (inside : Inside shut opening) (sound-both : SoundOpening groups both) (within : Inside both shut)
-    (common : (inner : Table) → Inside inner shut → Inside inner final → Inside inner both) where
+-- a table that is settled; groups that allow no more, as with one group more or a lower limit; a table inside the opening one, shut further
+-- say, and what it has in common with the settled one
+module _ {groups others : List Group} {opening final : Table} {passes : ℕ} (sound : SoundOpening groups opening)
+    (settles : settle groups opening ≡ Outcome.settled final passes) (stricter : (inner : Table) → Consistent others inner → Consistent groups inner)
+    {shut both : Table} (sound-shut : SoundOpening others shut) (inside : Inside shut opening) (sound-both : SoundOpening others both)
+    (within : Inside both shut) (common : (inner : Table) → Inside inner shut → Inside inner final → Inside inner both) where
   -- a consistent table inside the second lies in what they have in common
-  kept : (inner : Table) → Consistent groups inner → Inside inner shut → Inside inner both
-  kept inner consistent below = common inner below (settled-greatest sound settles inner consistent (inside-trans below inside))
+  kept : (inner : Table) → Consistent others inner → Inside inner shut → Inside inner both
+  kept inner consistent below = common inner below (settled-greatest sound settles inner (stricter inner consistent) (inside-trans below inside))
 
   -- settling either gives the same table, or both are refused for want of a plan
-  pub settled-onward : settledTable (settle groups shut) ≡ settledTable (settle groups both)
-  settled-onward = by-outcomes (settle groups shut) refl (settle groups both) refl
+  pub settled-onward : settledTable (settle others shut) ≡ settledTable (settle others both)
+  settled-onward = by-outcomes (settle others shut) refl (settle others both) refl
     where
-      below : {one : Table} {p : ℕ} → settle groups shut ≡ Outcome.settled one p → Inside one both
+      below : {one : Table} {p : ℕ} → settle others shut ≡ Outcome.settled one p → Inside one both
       below a = kept _ (settled-consistent sound-shut a) (settled-inside sound-shut a)
 
-      above : {other : Table} {q : ℕ} → settle groups both ≡ Outcome.settled other q → Inside other shut
+      above : {other : Table} {q : ℕ} → settle others both ≡ Outcome.settled other q → Inside other shut
       above b = inside-trans (settled-inside sound-both b) within
 
-      by-outcomes : (a : Outcome) → settle groups shut ≡ a → (b : Outcome) → settle groups both ≡ b
-          → settledTable (settle groups shut) ≡ settledTable (settle groups both)
+      by-outcomes : (a : Outcome) → settle others shut ≡ a → (b : Outcome) → settle others both ≡ b
+          → settledTable (settle others shut) ≡ settledTable (settle others both)
       by-outcomes (Outcome.settled one p) a (Outcome.settled other q) b =
           let up : Inside one other = settled-greatest sound-both b one (settled-consistent sound-shut a) (below a) in
           let down : Inside other one = settled-greatest sound-shut a other (settled-consistent sound-both b) (above b) in
