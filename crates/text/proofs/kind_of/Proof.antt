@@ -1,4 +1,4 @@
--- Each arm knows the numbers it stands for, and the last that the byte is none of them. Assumes nothing.
+-- Each arm knows its numbers, and the last that the byte is none of them. Assumes nothing.
 use Prim.Native.Nat.{ℕ}
 use native.Mathlib.Omega.{arith}
 use borrow.Author.Tests.{le-leb, lt-leb, ne-eqb}

@@ -29,7 +29,7 @@ abbrev pub counted : List ℕ → Number → Parsed ℕ
 counted text (Value v spot) = parsed v (bytesFrom text spot)
 counted text Missing = failed
 
--- the digit that stands first
+-- the first digit
 unfoldable pub firstDigit : List ℕ → Found
 firstDigit [] = Nothing
 firstDigit (b ∷ s) = pick (isDigit (kindOf b)) (Is (b - 48)) Nothing

@@ -86,7 +86,7 @@ unfolding firstDigit number
 number-none [] h = refl
 number-none (b ∷ s) h = rw (no-digit (isDigit (kindOf b)) (b - 48) h)
 
--- a digit stands inside the text
+-- a digit lies inside the text
 pub digit-inside : (text : List ℕ) (at d : ℕ) → firstDigit (drop at text) ≡ Is d → at < length text
 unfolding firstDigit
 digit-inside text at d h =
@@ -98,6 +98,6 @@ digit-inside text at d h =
           absurd (let z : _≡_ {A = ℕ} 0 1 = cc in omega arith)
     ]
 
--- what an answer stands for, once the answer is known
+-- what an answer says, once it is known
 pub told : {A B : Type 0} (f : A → B) {r k : A} {p : B} → f r ≡ p → r ≡ k → p ≡ f k
 told f h e = sym h ∙ ap f e

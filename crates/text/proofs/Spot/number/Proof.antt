@@ -1,4 +1,4 @@
--- The first digit decides: none, a 0 that stands alone, or one that others go on. Assumes nothing.
+-- The first digit decides: none, a 0 with no digit after it, or one that others follow. Assumes nothing.
 use mathlib.Core.Path.{sym, _∙_}
 use native.Mathlib.Omega.{arith}
 use borrow.Author.Needs.{needs}
