@@ -9,5 +9,5 @@ pub mod Writes
 pub mod Answers
 pub mod Promises
 pub mod Handing
-pub mod Handed
+pub mod Program
 pub mod Onward

@@ -33,6 +33,10 @@ check-any : (units : ℕ) (lows highs : List ℕ) (scratch other : ℕ) → 8 * 
 unfolding checkTable
 check-any units lows highs scratch other long wide = rw (le-leb (8 * units) scratch long, le-leb (8 * units) other wide)
 
+-- what a call answers
+answers : {w : WrittenText} {answer : Writing} {buffer : List ℕ} → w ≡ writtenText answer buffer → w .answer ≡ answer
+answers is = ap (λ (w : WrittenText). w .answer) is
+
 -- a text and a table that the checks let through
 module _ {text lows highs : List ℕ} {scratch : ℕ} (cleared : Cleared text lows highs scratch) where
   -- the job with the lent ranges is sound
@@ -59,9 +63,26 @@ module _ {text lows highs : List ℕ} {scratch : ℕ} (cleared : Cleared text lo
       → writeText text lows highs buffer ≡ writtenText (Refused (refusal 1 0)) buffer
   write-short buffer short = write-lent buffer ∙ sym (text-refused (lentJob cleared) buffer short)
 
--- what a call answers
-answers : {w : WrittenText} {answer : Writing} {buffer : List ℕ} → w ≡ writtenText answer buffer → w .answer ≡ answer
-answers is = ap (λ (w : WrittenText). w .answer) is
+  -- a length that is answered is the text's, which fits the buffer
+  pub lent-sized : (buffer : List ℕ) {size : ℕ} → writeText text lows highs buffer .answer ≡ Written size
+      → (size ≡ length (jobText (lentJob cleared))) × (size ≤ length buffer)
+  lent-sized buffer {size} is =
+      elim (decLe (length (jobText (lentJob cleared))) (length buffer)) [
+        | yes fits ↦
+            let same : Written (length (jobText (lentJob cleared))) ≡ Written size = sym (answers (write-fits buffer fits)) ∙ is in
+            let counted : length (jobText (lentJob cleared)) ≡ size = cc in (sym counted, omega arith)
+        | no long ↦
+            let short : length buffer < length (jobText (lentJob cleared)) = omega arith in
+            absurd (let z : _≡_ {A = ℕ} 0 1 = cc (answers (write-short buffer short)) in omega arith)
+      ]
+
+  -- settling refuses nothing ahead of 11
+  pub let-through : {reason : Refusal} → settleText text lows highs scratch .answer ≡ settling.Refused reason → ⊥
+  let-through refuses = by (works.ends cleared)
+    where
+      by : works.CallEnds cleared → ⊥
+      by (works.CallEnds.settled passes settles said) = let z : _≡_ {A = ℕ} 0 1 = cc (works.says said) in omega arith
+      by (works.CallEnds.refused number place passes settles said) = let z : _≡_ {A = ℕ} 0 1 = cc (works.says said) in omega arith
 
 module _ (text lows highs buffer : List ℕ) where
   -- how a call ends
@@ -99,25 +120,16 @@ module _ (text lows highs buffer : List ℕ) where
   pub write-exactly : (size : ℕ) → (writeText text lows highs buffer .answer ≡ Written size) ↔ WritesText text lows highs buffer size
   write-exactly size = (forth write-ends, back)
     where
+      of-cleared : Cleared text lows highs mostScratch → writeText text lows highs buffer .answer ≡ Written size → WritesText text lows highs buffer size
+      of-cleared cleared is = let (counted, fits) = lent-sized cleared buffer is in record { cleared = cleared; counted = counted; fits = fits }
+
       forth : WriteEnds → writeText text lows highs buffer .answer ≡ Written size → WritesText text lows highs buffer size
-      forth (WriteEnds.written cleared fits) is =
-          let same : Written (length (jobText (lentJob cleared))) ≡ Written size = sym (answers (write-fits cleared buffer fits)) ∙ is in
-          let counted : length (jobText (lentJob cleared)) ≡ size = cc in
-          record { cleared = cleared; counted = sym counted; fits = omega arith }
-      forth (WriteEnds.short cleared long) is =
-          absurd (let z : _≡_ {A = ℕ} 0 1 = cc (answers (write-short cleared buffer long)) in omega arith)
+      forth (WriteEnds.written cleared fits) is = of-cleared cleared is
+      forth (WriteEnds.short cleared long) is = of-cleared cleared is
       forth (WriteEnds.ahead reason settles ends) is = absurd (let z : _≡_ {A = ℕ} 0 1 = cc (answers ends) in omega arith)
 
       back : WritesText text lows highs buffer size → writeText text lows highs buffer .answer ≡ Written size
       back w = answers (write-fits (w .cleared) buffer (omega (arith, w .counted, w .fits))) ∙ ap Written (sym (w .counted))
-
-  -- a call that is let through is not refused ahead of 11
-  let-through : {reason : Refusal} → Cleared text lows highs mostScratch → settleText text lows highs mostScratch .answer ≡ settling.Refused reason → ⊥
-  let-through cleared refuses = by (works.ends cleared)
-    where
-      by : works.CallEnds cleared → ⊥
-      by (works.CallEnds.settled passes settles said) = let z : _≡_ {A = ℕ} 0 1 = cc (works.says said) in omega arith
-      by (works.CallEnds.refused number place passes settles said) = let z : _≡_ {A = ℕ} 0 1 = cc (works.says said) in omega arith
 
   -- a refusal is answered exactly where its words hold
   pub write-refused : (reason : Refusal) → (writeText text lows highs buffer .answer ≡ Refused reason) ↔ RefusesText text lows highs buffer reason

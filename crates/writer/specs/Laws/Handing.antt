@@ -2,14 +2,12 @@
 use Prim.Native.Nat.{ℕ}
 use mathlib.Core.List.{List, _++_}
 use mathlib.Core.Path.{_≡_, refl, sym, ap, _∙_}
-use lib.ListN.{length}
 use Rattle.job.specs.Job.{Job, JobOrRefusal, accepted, refused, readJob}
 use Rattle.job.specs.Laws.Sound.{accepted-sound}
 use Rattle.job.specs.Sound.{SoundJob}
 use Rattle.job.specs.TextLines.{linesOf}
 use Rattle.model.specs.Groups.{Group}
 use Rattle.report.specs.Laws.Cut.{report-cut}
-use Rattle.report.specs.Lines.{settledLine, refusalLine}
 use Rattle.report.specs.Places.{reportLines}
 use Rattle.report.specs.Program.{printedRead, printedOf}
 use Rattle.report.specs.Reports.{unitLines, groupLines, printed, reportOf}

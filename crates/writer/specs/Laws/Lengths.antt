@@ -7,11 +7,10 @@ use native.Mathlib.Omega.{arith}
 use borrow.Author.Tests.{leb-true}
 use lib.ListN.{length, getD, length-append}
 use Rattle.groups.specs.Memberships.{memberships}
-use Rattle.job.specs.Form.{printLimit, printMembers, printUnit, printGroup, unitOpening, space, unitEnding, groupOpening, deviationOpening}
-use Rattle.job.specs.Form.{spreadOpening, membersOpening, groupEnding}
+use Rattle.job.specs.Form.{printLimit, printMembers, printUnit, space, unitEnding, deviationOpening, spreadOpening, membersOpening, groupEnding}
 use Rattle.job.specs.Job.{Job}
 use Rattle.job.specs.Sound.{AcceptedGroup, AcceptedGroups, SoundJob}
-use Rattle.model.specs.Figures.{greatestDeviation, greatestSpread, limitWithin}
+use Rattle.model.specs.Figures.{limitWithin}
 use Rattle.model.specs.Groups.{Group}
 use Rattle.model.specs.Shares.{Ranges, mostUnits}
 use Rattle.model.specs.declared.Limit.{Limit}

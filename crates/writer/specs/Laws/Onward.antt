@@ -1,6 +1,6 @@
 -- A settled job that is changed to allow less settles as the job itself with that change. Assumes nothing.
-use mathlib.Core.List.{List}
-use mathlib.Core.Option.{some}
+use mathlib.Core.List.{List, List·Memᴰ}
+use mathlib.Core.Option.{none, some}
 use mathlib.Core.Path.{_≡_, refl, sym, ap, _∙_}
 use Prim.Native.Nat.{ℕ}
 use Rattle.model.specs.Groups.{Group}
@@ -8,24 +8,37 @@ use Rattle.works.specs.Consistency.{SoundOpening, Consistent}
 use Rattle.works.specs.Laws.Inside.{inside-both, inside-trans}
 use Rattle.works.specs.Laws.Settled.{settled-inside, settled-consistent, settled-greatest, refused-exactly}
 use Rattle.works.specs.Settling.{Outcome, settledTable, settle}
-use Rattle.works.specs.Tables.{Table, Inside}
+use Rattle.works.specs.Tables.{Table, Valid, Inside}
 
--- a table that is settled; groups that allow no more, as with one group more or a lower limit; a table inside the opening one, shut further
--- say, and what it has in common with the settled one
+-- groups that hold all of a job's groups are at rest in no table in which those are not
+pub more-stricter : {groups others : List Group} → ((group : Group) → List·Memᴰ group groups → List·Memᴰ group others)
+    → (inner : Table) → Consistent others inner → Consistent groups inner
+more-stricter among inner consistent = record {
+  valid = consistent .valid;
+  each = λ group member. consistent .each group (among group member);
+}
+
+-- a table that is settled, groups that are at rest in no table in which the job's own are not, and a table inside the opening one
 module _ {groups others : List Group} {opening final : Table} {passes : ℕ} (sound : SoundOpening groups opening)
     (settles : settle groups opening ≡ Outcome.settled final passes) (stricter : (inner : Table) → Consistent others inner → Consistent groups inner)
-    {shut both : Table} (sound-shut : SoundOpening others shut) (inside : Inside shut opening) (sound-both : SoundOpening others both)
-    (within : Inside both shut) (common : (inner : Table) → Inside inner shut → Inside inner final → Inside inner both) where
-  -- a consistent table inside the second lies in what they have in common
-  kept : (inner : Table) → Consistent others inner → Inside inner shut → Inside inner both
-  kept inner consistent below = common inner below (settled-greatest sound settles inner (stricter inner consistent) (inside-trans below inside))
+    {shut : Table} (sound-shut : SoundOpening others shut) (inside : Inside shut opening) where
+  -- a consistent table inside the second lies inside the settled one too
+  kept : (inner : Table) → Consistent others inner → Inside inner shut → Inside inner final
+  kept inner consistent below = settled-greatest sound settles inner (stricter inner consistent) (inside-trans below inside)
 
-  -- settling either gives the same table, or both are refused for want of a plan
-  pub settled-onward : settledTable (settle others shut) ≡ settledTable (settle others both)
-  settled-onward = by-outcomes (settle others shut) refl (settle others both) refl
+  -- where they have nothing in common, settling the second is refused for want of a plan
+  pub settled-apart : ((inner : Table) → Valid inner → Inside inner shut → Inside inner final → ⊥) → settledTable (settle others shut) ≡ none
+  settled-apart apart =
+      refused-exactly sound-shut .1 (λ inner consistent below. apart inner (consistent .valid) below (kept inner consistent below))
+
+  -- else settling it, or what they have in common, gives the same table, or both are refused for want of a plan
+  pub settled-onward : {both : Table} → SoundOpening others both → Inside both shut
+      → ((inner : Table) → Inside inner shut → Inside inner final → Inside inner both)
+      → settledTable (settle others shut) ≡ settledTable (settle others both)
+  settled-onward {both} sound-both within common = by-outcomes (settle others shut) refl (settle others both) refl
     where
       below : {one : Table} {p : ℕ} → settle others shut ≡ Outcome.settled one p → Inside one both
-      below a = kept _ (settled-consistent sound-shut a) (settled-inside sound-shut a)
+      below a = common _ (settled-inside sound-shut a) (kept _ (settled-consistent sound-shut a) (settled-inside sound-shut a))
 
       above : {other : Table} {q : ℕ} → settle others both ≡ Outcome.settled other q → Inside other shut
       above b = inside-trans (settled-inside sound-both b) within

@@ -18,6 +18,7 @@ use Rattle.works.specs.declared.Settling.the-variants.{Settled, NoPlan, Refused
 use Rattle.writer.specs.Calls.{WrittenText, writtenText, writeText}
 use Rattle.writer.specs.Handing.{handedAfter, handedOn}
 use Rattle.writer.specs.Inner.Asked.{LetThrough}
+use Rattle.writer.specs.Laws.Answers.{let-through}
 use Rattle.writer.specs.Laws.Handing.{handed-settles}
 use Rattle.writer.specs.Laws.Promises.{always-written, written-size, written-holds}
 use Rattle.writer.specs.declared.Writing.the-variants as writing
@@ -46,14 +47,7 @@ module _ {text lows highs : List ℕ} {scratch : ℕ} (opened : Opened text lows
 
   -- no refusal comes ahead of the first pass
   pub opened-through : {reason : Refusal} → answer ≡ Refused reason → ⊥
-  opened-through {reason} refuses = by (ends cleared)
-    where
-      by : CallEnds cleared → ⊥
-      by (CallEnds.settled passes settles said) =
-          let differ : Settled passes ≡ Refused reason = sym (says said) ∙ answered ∙ refuses in let z : _≡_ {A = ℕ} 0 1 = cc in omega arith
-      by (CallEnds.refused number place passes settles said) =
-          let differ : NoPlan number place passes ≡ Refused reason = sym (says said) ∙ answered ∙ refuses in
-          let z : _≡_ {A = ℕ} 0 1 = cc in omega arith
+  opened-through refuses = let-through cleared (answered ∙ refuses)
 
   -- for want of a plan the refusal's line is handed on
   pub refused-hands : {number place passes : ℕ} → answer ≡ NoPlan number place passes → handedOn text ≡ refusalLine number place

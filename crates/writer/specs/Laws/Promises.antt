@@ -1,8 +1,7 @@
 -- The promises of writing: what is written is read back, is the text that was read, and settles in one pass where it was settled. Assumes nothing.
-use Prim.Native.Nat.{ℕ, _*_, _≤_, _<_}
+use Prim.Native.Nat.{ℕ, _*_, _≤_}
 use mathlib.Core.List.{List, _++_}
 use mathlib.Core.Path.{_≡_, refl, sym, ap, _∙_}
-use native.Mathlib.Decide.{decLe}
 use native.Mathlib.Omega.{arith}
 use lib.ListN.{length, take, drop, take-append-drop}
 use lib.Seq.{take-at, length-take-le}
@@ -25,7 +24,7 @@ use Rattle.works.specs.Settling.{Outcome, settle}
 use Rattle.works.specs.Tables.{Table, tableOf}
 use Rattle.works.specs.declared.Settling.the-variants.{Settled}
 use Rattle.writer.specs.Calls.{WrittenText, writtenText, writeText}
-use Rattle.writer.specs.Laws.Answers.{lent-sound, write-fits, write-short}
+use Rattle.writer.specs.Laws.Answers.{lent-sound, write-fits, lent-sized}
 use Rattle.writer.specs.Laws.Lengths.{text-fits}
 use Rattle.writer.specs.Laws.Spelled.{accepted-text, text-accepted}
 use Rattle.writer.specs.Promises.{lentJob, textIn}
@@ -41,32 +40,21 @@ always-written cleared buffer long =
 -- a text and a table that the checks let through, written
 module _ {text lows highs : List ℕ} {scratch : ℕ} (cleared : Cleared text lows highs scratch) (buffer : List ℕ) {size : ℕ}
     (is : writeText text lows highs buffer .answer ≡ Written size) where
-  -- the text has the length answered and fits the buffer
-  sized : (size ≡ length (jobText (lentJob cleared))) × (length (jobText (lentJob cleared)) ≤ length buffer)
-  sized =
-      elim (decLe (length (jobText (lentJob cleared))) (length buffer)) [
-        | yes fits ↦
-            let same : Written (length (jobText (lentJob cleared))) ≡ Written size =
-            sym (ap (λ (w : WrittenText). w .answer) (write-fits cleared buffer fits)) ∙ is in
-            let counted : length (jobText (lentJob cleared)) ≡ size = cc in (sym counted, fits)
-        | no long ↦
-            let short : length buffer < length (jobText (lentJob cleared)) = omega arith in
-            absurd (let z : _≡_ {A = ℕ} 0 1 = cc (ap (λ (w : WrittenText). w .answer) (write-short cleared buffer short)) in omega arith)
-      ]
-
   -- the length answered is that of the text of the job with the lent ranges
   pub written-size : size ≡ length (jobText (lentJob cleared))
-  written-size = sized .0
+  written-size = lent-sized cleared buffer is .0
 
   -- the buffer holds that text, and past it what it held
   pub written-holds : writeText text lows highs buffer ≡ writtenText (Written size) (jobText (lentJob cleared) ++ drop size buffer)
-  written-holds = write-fits cleared buffer (sized .1) ∙ ap (λ (k : ℕ). writtenText (Written k) (jobText (lentJob cleared) ++ drop k buffer)) (sym (sized .0))
+  written-holds =
+      write-fits cleared buffer (omega (arith, written-size, lent-sized cleared buffer is .1))
+      ∙ ap (λ (k : ℕ). writtenText (Written k) (jobText (lentJob cleared) ++ drop k buffer)) (sym written-size)
 
   -- what is written is the text of that job
   pub written-text : textIn size (writeText text lows highs buffer) ≡ jobText (lentJob cleared)
   written-text =
       ap (λ (w : WrittenText). take size (w .buffer)) written-holds
-      ∙ take-at (jobText (lentJob cleared)) (drop size buffer) size (sym (sized .0))
+      ∙ take-at (jobText (lentJob cleared)) (drop size buffer) size (sym written-size)
 
   -- it is accepted, as the same groups with the lent ranges
   pub written-accepted : readJob (textIn size (writeText text lows highs buffer)) ≡ accepted (lentJob cleared)
@@ -74,7 +62,7 @@ module _ {text lows highs : List ℕ} {scratch : ℕ} (cleared : Cleared text lo
 
   -- it has at most 26,752 bytes
   pub written-fits : size ≤ mostWritten
-  written-fits = omega (arith, sized .0, text-fits (lentJob cleared) (lent-sound cleared))
+  written-fits = omega (arith, written-size, text-fits (lentJob cleared) (lent-sound cleared))
 
   -- reading it into a table that is long enough
   module _ {lows₀ highs₀ nextLows nextHighs : List ℕ} {answer : Reading}

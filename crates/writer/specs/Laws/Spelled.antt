@@ -1,5 +1,5 @@
 -- A text that is accepted is the text of its job. Assumes nothing.
-use Prim.Native.Nat.{ℕ, suc, _-_, _≤_}
+use Prim.Native.Nat.{ℕ, suc}
 use mathlib.Core.Bool.{true}
 use mathlib.Core.List.{List, [], _∷_, _++_, map, flatten, append-assoc, append-nil}
 use mathlib.Core.Path.{_≡_, refl, sym, ap, _∙_}
@@ -9,14 +9,12 @@ use lib.Dec.{leb}
 use lib.ListN.{length, length-append}
 use Rattle.groups.specs.Memberships.{memberships}
 use Rattle.job.specs.Accepting.{Takes}
-use Rattle.job.specs.Form.{GroupLine, Line, unit, group, printUnit, printLine}
-use Rattle.job.specs.Job.{Job, named, allNamed, memberOf, groupOf, headVerdict, membersVerdict, verdict, add, noLines, accepted, readJob}
+use Rattle.job.specs.Form.{Line, unit, group, printUnit, printLine}
+use Rattle.job.specs.Job.{Job, named, allNamed, memberOf, groupOf, headVerdict, membersVerdict, verdict, add, accepted, readJob}
 use Rattle.job.specs.Laws.Accepting.{accepted-takes, takes-accepted}
-use Rattle.job.specs.Laws.Sound.{accepted-sound}
 use Rattle.job.specs.Laws.TextLines.{joined-lines}
 use Rattle.job.specs.Laws.Verdicts.{unit-good, first-zero, members-good}
 use Rattle.job.specs.Sound.{SoundJob}
-use Rattle.job.specs.TextLines.{linesOf}
 use Rattle.model.specs.Groups.{Group}
 use Rattle.model.specs.Laws.Tests.{both-left, both-right}
 use Rattle.writer.specs.Laws.Lengths.{text-fits}

@@ -2,7 +2,7 @@
 use borrow.Author.Needs.{needs}
 use mathlib.Core.Path.{refl}
 use Rattle.report.specs.Laws.Printed.{refusal-printed}
-use Rattle.writer.specs.Laws.Handed.{opened-through, refused-hands, settled-through, settled-hands}
+use Rattle.writer.specs.Laws.Program.{opened-through, refused-hands, settled-through, settled-hands}
 use Rattle.writer.proofs.program.hand_answer.Statement.{statement}
 use Rattle.writer.proofs.program.hand_answer.Tie as tie
 

@@ -1,6 +1,6 @@
 -- The text is written; no refusal is left. Assumes nothing.
 use borrow.Author.Needs.{needs}
-use Rattle.writer.specs.Laws.Handed.{never-short}
+use Rattle.writer.specs.Laws.Program.{never-short}
 use Rattle.writer.proofs.program.write_settled.Statement.{statement}
 use Rattle.writer.proofs.program.write_settled.Tie as tie
 
