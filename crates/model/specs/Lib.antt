@@ -4,6 +4,7 @@ pub mod Figures
 pub mod Levels
 pub mod Plans
 pub mod Groups
+pub mod Running
 pub mod Known
 pub mod Even
 pub mod Narrowing
