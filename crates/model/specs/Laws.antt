@@ -17,4 +17,7 @@ pub mod Narrowing
 pub mod Keeping
 pub mod Ends
 pub mod Turns
+pub mod Running
+pub mod Marked
+pub mod Shut
 pub mod Known

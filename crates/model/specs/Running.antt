@@ -6,7 +6,7 @@ use mathlib.Core.Path.{_≡_}
 use lib.Dec.{eqb}
 use lib.ListN.{length, getD}
 use Rattle.model.specs.Shares.{sum, Within}
-use Rattle.model.specs.Figures.{above, figuresOf, met}
+use Rattle.model.specs.Figures.{deviation, spread, above, figuresOf, met, deviationBound}
 use Rattle.model.specs.Plans.{turnOf, narrowedLows, narrowedHighs}
 use Rattle.model.specs.declared.Figures.{Figures}
 use Rattle.model.specs.declared.Limits.{Limits}
@@ -35,8 +35,19 @@ pub data Marked : List ℕ → List ℕ → List ℕ → Type 0 where
   shut : {ms ls hs : List ℕ} → Marked ms ls hs → Marked (1 ∷ ms) (0 ∷ ls) (0 ∷ hs)
 
 -- 02: "Figures .. use the number of members not shut as n and sum over those alone"
+abbrev pub markedDeviation : List ℕ → ℕ → List ℕ → ℕ
+markedDeviation marks total xs = deviation (length (running marks xs)) total (running marks xs)
+
+abbrev pub markedSpread : List ℕ → ℕ → List ℕ → ℕ
+markedSpread marks total xs = spread (length (running marks xs)) total (running marks xs)
+
+-- both figures
 abbrev pub markedFigures : List ℕ → ℕ → List ℕ → Figures
 markedFigures marks total xs = figuresOf (length (running marks xs)) total (running marks xs)
+
+-- 02: "and 01's bound below the deviation"
+abbrev pub markedBound : List ℕ → ℕ → List ℕ → List ℕ → ℕ
+markedBound marks total lows highs = deviationBound (length (running marks lows)) total (running marks lows) (running marks highs)
 
 -- 02: "Totals above t are summed over running members"
 abbrev pub markedAbove : List ℕ → ℕ → List ℕ → ℕ

@@ -1,0 +1,160 @@
+-- Members who are shut change no total and no level: what holds of the running members holds of all. Assumes nothing.
+use Prim.Native.Nat.{ℕ, zero, suc, _+_, _-_, _/_, _≤_, min}
+use mathlib.Core.Bool.{Bool, true, false}
+use mathlib.Core.List.{List, [], _∷_}
+use mathlib.Core.Path.{_≡_, refl, ap, _∙_}
+use native.Mathlib.Nat.{suc-inj}
+use native.Mathlib.Omega.{arith}
+use lib.Dec.{leb}
+use borrow.Author.Tests.{le-ltb}
+use lib.ListN.{length}
+use Rattle.model.specs.Shares.{greatestShare, Ranges, Within, sum}
+use Rattle.model.specs.Levels.{clamp, clamped, totalAt, levelBelow, level, growth, topped, remainder, levelled}
+use Rattle.model.specs.Plans.{hasShares}
+use Rattle.model.specs.Laws.Tests.{right-fails}
+use Rattle.model.specs.Running.{runs, running, Marked}
+
+-- a running member's number is kept
+pub running-run : (m : ℕ) → runs m ≡ true → (ms : List ℕ) (x : ℕ) (xs : List ℕ) → running (m ∷ ms) (x ∷ xs) ≡ x ∷ running ms xs
+unfolding running
+running-run m e ms x xs = rw (e, running)
+
+-- a shut one's is left out
+pub running-skip : (m : ℕ) → runs m ≡ false → (ms : List ℕ) (x : ℕ) (xs : List ℕ) → running (m ∷ ms) (x ∷ xs) ≡ running ms xs
+unfolding running
+running-skip m e ms x xs = rw (e, running)
+
+-- one mark for each range
+pub marked-length : {ms ls hs : List ℕ} → Marked ms ls hs → (length ls ≡ length ms) × (length hs ≡ length ms)
+marked-length Marked.none = (refl, refl)
+marked-length (Marked.run m) = (ap suc (marked-length m .0), ap suc (marked-length m .1))
+marked-length (Marked.shut m) = (ap suc (marked-length m .0), ap suc (marked-length m .1))
+
+-- as many members run whatever numbers are asked of them
+pub running-length : (ms xs ys : List ℕ) → length xs ≡ length ys → length (running ms xs) ≡ length (running ms ys)
+unfolding running
+running-length [] xs ys e = refl
+running-length (m ∷ ms) [] [] e = refl
+running-length (m ∷ ms) [] (y ∷ ys) e = absurd (omega arith)
+running-length (m ∷ ms) (x ∷ xs) [] e = absurd (omega arith)
+running-length (m ∷ ms) (x ∷ xs) (y ∷ ys) e = by (runs m) (running-length ms xs ys (suc-inj e))
+  where
+    by : (b : Bool) → length (running ms xs) ≡ length (running ms ys) → length {A = ℕ} (elim b [ true ↦ x ∷ running ms xs | false ↦ running ms xs ])
+        ≡ length {A = ℕ} (elim b [ true ↦ y ∷ running ms ys | false ↦ running ms ys ])
+    by true rest = ap suc rest
+    by false rest = rest
+
+-- at most all of them
+pub running-few : (ms xs : List ℕ) → length (running ms xs) ≤ length xs
+unfolding running
+running-few [] xs = omega arith
+running-few (m ∷ ms) [] = omega arith
+running-few (m ∷ ms) (x ∷ xs) = by (runs m) (running-few ms xs)
+  where
+    by : (b : Bool) → length (running ms xs) ≤ length xs → length {A = ℕ} (elim b [ true ↦ x ∷ running ms xs | false ↦ running ms xs ]) ≤ suc (length xs)
+    by true rest = omega arith
+    by false rest = omega arith
+
+-- the ranges of running members are ranges
+pub running-ranges : (ms : List ℕ) {ls hs : List ℕ} → Ranges ls hs → Ranges (running ms ls) (running ms hs)
+unfolding running
+running-ranges [] r = Ranges.none
+running-ranges (m ∷ ms) Ranges.none = Ranges.none
+running-ranges (m ∷ ms) (Ranges.also {l} {h} {ls} {hs} p q r) = by (runs m) (running-ranges ms r)
+  where
+    by : (b : Bool) → Ranges (running ms ls) (running ms hs)
+        → Ranges (elim b [ true ↦ l ∷ running ms ls | false ↦ running ms ls ]) (elim b [ true ↦ h ∷ running ms hs | false ↦ running ms hs ])
+    by true rest = Ranges.also p q rest
+    by false rest = rest
+
+-- shares of running members in their ranges
+pub running-within : (ms : List ℕ) {ls hs xs : List ℕ} → Within ls hs xs → Within (running ms ls) (running ms hs) (running ms xs)
+unfolding running
+running-within [] w = Within.none
+running-within (m ∷ ms) Within.none = Within.none
+running-within (m ∷ ms) (Within.also {l} {h} {x} {ls} {hs} {xs} p q w) = by (runs m) (running-within ms w)
+  where
+    by : (b : Bool) → Within (running ms ls) (running ms hs) (running ms xs)
+        → Within (elim b [ true ↦ l ∷ running ms ls | false ↦ running ms ls ]) (elim b [ true ↦ h ∷ running ms hs | false ↦ running ms hs ])
+        (elim b [ true ↦ x ∷ running ms xs | false ↦ running ms xs ])
+    by true rest = Within.also p q rest
+    by false rest = rest
+
+-- a shut member's share is 0, so the running members have the whole total
+pub running-sum : {ms ls hs xs : List ℕ} → Marked ms ls hs → Within ls hs xs → sum (running ms xs) ≡ sum xs
+unfolding running sum
+running-sum Marked.none Within.none = refl
+running-sum (Marked.run m) (Within.also {x = x} p q w) = ap (λ (n : ℕ). x + n) (running-sum m w)
+running-sum (Marked.shut m) (Within.also p q w) = omega (arith, running-sum m w)
+
+pub running-lows : {ms ls hs : List ℕ} → Marked ms ls hs → sum (running ms ls) ≡ sum ls
+unfolding running sum
+running-lows Marked.none = refl
+running-lows (Marked.run {l} m) = ap (λ (n : ℕ). l + n) (running-lows m)
+running-lows (Marked.shut m) = omega (arith, running-lows m)
+
+pub running-highs : {ms ls hs : List ℕ} → Marked ms ls hs → sum (running ms hs) ≡ sum hs
+unfolding running sum
+running-highs Marked.none = refl
+running-highs (Marked.run {h = h} m) = ap (λ (n : ℕ). h + n) (running-highs m)
+running-highs (Marked.shut m) = omega (arith, running-highs m)
+
+-- shares with the total exist where the running members have them
+pub running-shares : {ms ls hs : List ℕ} → Marked ms ls hs → (total : ℕ) → hasShares (running ms ls) (running ms hs) total ≡ hasShares ls hs total
+running-shares m total = rw (running-lows m, running-highs m)
+
+-- T(v) is that of the running members
+pub running-total : {ms ls hs : List ℕ} → Marked ms ls hs → (v : ℕ) → totalAt (running ms ls) (running ms hs) v ≡ totalAt ls hs v
+unfolding running totalAt clamped sum
+running-total Marked.none v = refl
+running-total (Marked.run {l} {h} m) v = ap (λ (n : ℕ). clamp l h v + n) (running-total m v)
+running-total (Marked.shut m) v = omega (arith, running-total m v)
+
+-- so is the level
+running-below : {ms ls hs : List ℕ} → Marked ms ls hs → (total steps v top : ℕ)
+    → levelBelow steps (running ms ls) (running ms hs) total v top ≡ levelBelow steps ls hs total v top
+unfolding levelBelow
+running-below m total zero v top = refl
+running-below {ms} {ls} {hs} m total (suc steps) v top =
+    rw (running-total m ((v + top) / 2), levelBelow)
+    (by (leb (totalAt ls hs ((v + top) / 2)) total) (running-below m total steps))
+  where
+    by : (b : Bool)
+        → ((v top : ℕ) → levelBelow steps (running ms ls) (running ms hs) total v top ≡ levelBelow steps ls hs total v top)
+        → _≡_ {A = ℕ}
+        (elim b [
+          | true ↦ levelBelow steps (running ms ls) (running ms hs) total ((v + top) / 2) top
+          | false ↦ levelBelow steps (running ms ls) (running ms hs) total v ((v + top) / 2)
+        ])
+        (elim b [ true ↦ levelBelow steps ls hs total ((v + top) / 2) top | false ↦ levelBelow steps ls hs total v ((v + top) / 2) ])
+    by true rest = rest ((v + top) / 2) top
+    by false rest = rest v ((v + top) / 2)
+
+pub running-level : {ms ls hs : List ℕ} → Marked ms ls hs → (total : ℕ) → level (running ms ls) (running ms hs) total ≡ level ls hs total
+unfolding level
+running-level m total = running-below m total 20 0 (suc greatestShare)
+
+-- and the copies left over
+running-remainder : {ms ls hs : List ℕ} → Marked ms ls hs → (total : ℕ) → remainder (running ms ls) (running ms hs) total ≡ remainder ls hs total
+unfolding remainder
+running-remainder m total = rw (running-level m total, running-total m)
+
+-- a shut member takes no copy more
+shut-growth : (v : ℕ) → growth 0 0 v ≡ 0
+shut-growth v = rw (le-ltb v 0 (omega arith), right-fails (leb 0 v) refl)
+
+running-topped : {ms ls hs : List ℕ} → Marked ms ls hs → (v left : ℕ)
+    → running ms (topped ls hs v left) ≡ topped (running ms ls) (running ms hs) v left
+unfolding running topped
+running-topped Marked.none v left = refl
+running-topped (Marked.run {l} {h} m) v left =
+    ap (λ (xs : List ℕ). (clamp l h v + min left (growth l h v)) ∷ xs) (running-topped m v (left - min left (growth l h v)))
+running-topped (Marked.shut {ms} {ls} {hs} m) v left =
+    let none : left - min left (growth 0 0 v) ≡ left = omega (arith, shut-growth v) in
+    ap (λ (n : ℕ). running ms (topped ls hs v n)) none ∙ running-topped m v left
+
+-- the levelled shares of the running members are those that they have among all members
+pub running-levelled : {ms ls hs : List ℕ} → Marked ms ls hs → (total : ℕ)
+    → running ms (levelled ls hs total) ≡ levelled (running ms ls) (running ms hs) total
+unfolding levelled
+running-levelled m total = rw (running-level m total, running-remainder m total) (running-topped m _ _)

@@ -1,0 +1,73 @@
+-- The laws of one group with shut members: least figures, 01's bound, shares and plans. Assumes nothing.
+use Prim.Native.Nat.{ℕ, _*_, _≤_}
+use mathlib.Core.List.{List}
+use mathlib.Core.Logic.{_↔_}
+use mathlib.Core.Path.{_≡_, sym, ap, _∙_}
+use native.Mathlib.Omega.{arith}
+use lib.ListN.{length}
+use Rattle.model.specs.Shares.{Ranges, Within, sum}
+use Rattle.model.specs.Figures.{deviation, spread, above}
+use Rattle.model.specs.Levels.{levelled}
+use Rattle.model.specs.Running.{running, restored, Marked, MarkedPlans, markedDeviation, markedSpread, markedAbove, markedBound}
+use Rattle.model.specs.Transfers.{SchurConvex}
+use Rattle.model.specs.Verdicts.{Shares, Plans}
+use Rattle.model.specs.Laws.Deviation.{deviation-bound, levelled-reaches-bound}
+use Rattle.model.specs.Laws.Levelled.{levelled-within}
+use Rattle.model.specs.Laws.Plans.{levelled-least}
+use Rattle.model.specs.Laws.Running.{running-ranges, running-within, running-sum, running-levelled, running-lows, running-highs}
+use Rattle.model.specs.Laws.Marked.{running-counted, restored-within, running-restored, marked-plan, plan-marked}
+use Rattle.model.specs.Laws.Transfer.{deviation-schur, spread-schur, above-schur}
+use Rattle.model.specs.declared.Limits.{Limits}
+
+module _ {ms ls hs : List ℕ} (marked : Marked ms ls hs) (ranges : Ranges ls hs) (total : ℕ) where
+  -- the running members' levelled shares have the least of every figure that an exchange never raises
+  marked-least : {xs : List ℕ} → Within ls hs xs → sum xs ≡ total → (F : List ℕ → ℕ) → SchurConvex F
+      → F (running ms (levelled ls hs total)) ≤ F (running ms xs)
+  marked-least within adds F convex =
+      rw (running-levelled marked total)
+      (levelled-least (running-ranges ms ranges) total (running-within ms within) (running-sum marked within ∙ adds) F convex)
+
+  -- as many running members are levelled as have shares
+  levelled-many : {xs : List ℕ} → Within ls hs xs → length (running ms (levelled ls hs total)) ≡ length (running ms xs)
+  levelled-many within = running-counted ms (levelled-within ranges total) ∙ sym (running-counted ms within)
+
+  -- so the least deviation, the least spread and the least total above every t, of the running members
+  pub marked-least-deviation : {xs : List ℕ} → Within ls hs xs → sum xs ≡ total
+      → markedDeviation ms total (levelled ls hs total) ≤ markedDeviation ms total xs
+  marked-least-deviation {xs} within adds =
+      rw (levelled-many within) (marked-least within adds (deviation (length (running ms xs)) total) (deviation-schur (length (running ms xs)) total))
+
+  pub marked-least-spread : {xs : List ℕ} → Within ls hs xs → sum xs ≡ total
+      → markedSpread ms total (levelled ls hs total) ≤ markedSpread ms total xs
+  marked-least-spread {xs} within adds =
+      rw (levelled-many within) (marked-least within adds (spread (length (running ms xs)) total) (spread-schur (length (running ms xs)) total))
+
+  pub marked-least-above : {xs : List ℕ} → Within ls hs xs → sum xs ≡ total → (t : ℕ)
+      → markedAbove ms t (levelled ls hs total) ≤ markedAbove ms t xs
+  marked-least-above within adds t = marked-least within adds (above t) (above-schur t)
+
+  -- 01's bound below the deviation, of the running members
+  pub marked-bound : {xs : List ℕ} → Within ls hs xs → sum xs ≡ total → markedBound ms total ls hs ≤ markedDeviation ms total xs
+  marked-bound {xs} within adds =
+      let low = deviation-bound (running-within ms within) in
+      rw (← running-counted ms within, ← (running-sum marked within ∙ adds)) low
+
+  -- when their number divides the total, the levelled shares reach it
+  pub marked-reaches-bound : (q : ℕ) → sum ls ≤ total → total ≤ sum hs → total ≡ length (running ms ls) * q
+      → markedDeviation ms total (levelled ls hs total) ≡ markedBound ms total ls hs
+  marked-reaches-bound q low high divides =
+      rw (running-counted ms (levelled-within ranges total), running-levelled marked total)
+      (levelled-reaches-bound (running-ranges ms ranges) total q
+      (omega (arith, running-lows marked)) (omega (arith, running-highs marked)) divides)
+
+module _ {ms ls hs : List ℕ} (marked : Marked ms ls hs) (total : ℕ) where
+  -- shares with the total exist where the running members have them
+  pub marked-shares : Shares (running ms ls) (running ms hs) total ↔ Shares ls hs total
+  marked-shares =
+      (λ (ys, within, adds). (restored ms ys, restored-within marked ys within,
+        sym (running-sum marked (restored-within marked ys within)) ∙ ap sum (running-restored marked ys within) ∙ adds),
+      λ (xs, within, adds). (running ms xs, running-within ms within, running-sum marked within ∙ adds))
+
+  -- and so do plans
+  pub marked-plans : (limits : Limits) → Plans (running ms ls) (running ms hs) total limits ↔ MarkedPlans ms ls hs total limits
+  marked-plans limits = (λ (ys, plan). (restored ms ys, plan-marked marked plan), λ (xs, plan). (running ms xs, marked-plan marked plan))
