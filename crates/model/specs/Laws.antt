@@ -20,4 +20,5 @@ pub mod Turns
 pub mod Running
 pub mod Marked
 pub mod Shut
+pub mod ShutNarrowing
 pub mod Known

@@ -20,6 +20,12 @@ pub const GREATEST_DEVIATION: u64 = 100_000_000_000;
 // A spread limit is at most this.
 pub const GREATEST_SPREAD: u64 = 100_000_000_000_000_000;
 
+// The mark of a unit that runs.
+pub const RUNNING: u64 = 0;
+
+// The mark of a shut unit.
+pub const SHUT: u64 = 1;
+
 // A share: a whole number of copies from LEAST to GREATEST.
 pub struct Share {
     copies: u64,

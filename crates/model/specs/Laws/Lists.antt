@@ -2,7 +2,7 @@
 use Prim.Native.Nat.{ℕ, zero, suc, _+_, _≤_, _<_}
 use mathlib.Core.List.{List, [], _∷_}
 use mathlib.Core.Path.{_≡_, refl, ap}
-use native.Mathlib.Nat.{le-of-suc-le-suc, suc-inj}
+use native.Mathlib.Nat.{le-refl, le-of-suc-le-suc, suc-inj}
 use native.Mathlib.Omega.{arith}
 use lib.ListN.{length, getD, set}
 use Rattle.model.specs.Shares.{Ranges, Within, greatestShare, sum, sumOf}
@@ -49,6 +49,15 @@ pub ranges-at : {lows highs : List ℕ} → Ranges lows highs
 ranges-at Ranges.none i h = absurd (omega arith)
 ranges-at (Ranges.also p q r) zero h = (p, q)
 ranges-at (Ranges.also p q r) (suc i) h = ranges-at r i (le-of-suc-le-suc h)
+
+-- the lows are within their ranges, and so are the highs
+pub lows-within : {lows highs : List ℕ} → Ranges lows highs → Within lows highs lows
+lows-within Ranges.none = Within.none
+lows-within (Ranges.also p q r) = Within.also (le-refl _) p (lows-within r)
+
+pub highs-within : {lows highs : List ℕ} → Ranges lows highs → Within lows highs highs
+highs-within Ranges.none = Within.none
+highs-within (Ranges.also p q r) = Within.also p (le-refl _) (highs-within r)
 
 -- lists of one length, with each low at most its high and each high a share, are ranges
 pub ranges-of : (lows highs : List ℕ) → length highs ≡ length lows

@@ -8,9 +8,10 @@ use native.Mathlib.Omega.{arith}
 use lib.Dec.{leb}
 use borrow.Author.Tests.{le-ltb}
 use lib.ListN.{length}
-use Rattle.model.specs.Shares.{greatestShare, Ranges, Within, sum}
+use Rattle.model.specs.Shares.{greatestShare, Ranges, Within, sum, sumOf}
 use Rattle.model.specs.Levels.{clamp, clamped, totalAt, levelBelow, level, growth, topped, remainder, levelled}
 use Rattle.model.specs.Plans.{hasShares}
+use Rattle.model.specs.Laws.Lists.{sum-sumOf}
 use Rattle.model.specs.Laws.Tests.{right-fails}
 use Rattle.model.specs.Running.{runs, running, Marked}
 
@@ -23,6 +24,12 @@ running-run m e ms x xs = rw (e, running)
 pub running-skip : (m : ℕ) → runs m ≡ false → (ms : List ℕ) (x : ℕ) (xs : List ℕ) → running (m ∷ ms) (x ∷ xs) ≡ running ms xs
 unfolding running
 running-skip m e ms x xs = rw (e, running)
+
+-- without numbers nothing is kept
+pub running-nil : (ms : List ℕ) → running ms [] ≡ []
+unfolding running
+running-nil [] = refl
+running-nil (m ∷ ms) = refl
 
 -- one mark for each range
 pub marked-length : {ms ls hs : List ℕ} → Marked ms ls hs → (length ls ≡ length ms) × (length hs ≡ length ms)
@@ -80,12 +87,18 @@ running-within (m ∷ ms) (Within.also {l} {h} {x} {ls} {hs} {xs} p q w) = by (r
     by true rest = Within.also p q rest
     by false rest = rest
 
--- a shut member's share is 0, so the running members have the whole total
+-- a shut member's share is 0, so the running members have all of a sum to which 0 adds nothing
+pub running-sumOf : (f : ℕ → ℕ) → f 0 ≡ 0 → {ms ls hs xs : List ℕ} → Marked ms ls hs → Within ls hs xs → sumOf f (running ms xs) ≡ sumOf f xs
+unfolding running sumOf
+running-sumOf f none Marked.none Within.none = refl
+running-sumOf f none (Marked.run m) (Within.also {x = x} p q w) = ap (λ (n : ℕ). f x + n) (running-sumOf f none m w)
+running-sumOf f none (Marked.shut m) (Within.also {x = x} p q w) =
+    let nothing : x ≡ 0 = omega arith in
+    omega (arith, running-sumOf f none m w, ap f nothing)
+
+-- and the whole total
 pub running-sum : {ms ls hs xs : List ℕ} → Marked ms ls hs → Within ls hs xs → sum (running ms xs) ≡ sum xs
-unfolding running sum
-running-sum Marked.none Within.none = refl
-running-sum (Marked.run m) (Within.also {x = x} p q w) = ap (λ (n : ℕ). x + n) (running-sum m w)
-running-sum (Marked.shut m) (Within.also p q w) = omega (arith, running-sum m w)
+running-sum {ms} {ls} {hs} {xs} m w = rw (sum-sumOf (running ms xs), sum-sumOf xs) (running-sumOf (λ x. x) refl m w)
 
 pub running-lows : {ms ls hs : List ℕ} → Marked ms ls hs → sum (running ms ls) ≡ sum ls
 unfolding running sum

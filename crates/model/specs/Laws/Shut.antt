@@ -1,21 +1,21 @@
 -- The laws of one group with shut members: least figures, 01's bound, shares and plans. Assumes nothing.
 use Prim.Native.Nat.{ℕ, _*_, _≤_}
-use mathlib.Core.List.{List}
+use mathlib.Core.List.{List, [], _∷_}
 use mathlib.Core.Logic.{_↔_}
-use mathlib.Core.Path.{_≡_, sym, ap, _∙_}
+use mathlib.Core.Path.{_≡_, refl, sym, ap, subst, _∙_}
 use native.Mathlib.Omega.{arith}
 use lib.ListN.{length}
-use Rattle.model.specs.Shares.{Ranges, Within, sum}
+use Rattle.model.specs.Shares.{Ranges, Within, sum, sumOf}
 use Rattle.model.specs.Figures.{deviation, spread, above}
 use Rattle.model.specs.Levels.{levelled}
-use Rattle.model.specs.Running.{running, restored, Marked, MarkedPlans, markedDeviation, markedSpread, markedAbove, markedBound}
+use Rattle.model.specs.Running.{running, restored, Marked, MarkedPlan, MarkedPlans, markedDeviation, markedSpread, markedAbove, markedBound}
 use Rattle.model.specs.Transfers.{SchurConvex}
 use Rattle.model.specs.Verdicts.{Shares, Plans}
 use Rattle.model.specs.Laws.Deviation.{deviation-bound, levelled-reaches-bound}
 use Rattle.model.specs.Laws.Levelled.{levelled-within}
-use Rattle.model.specs.Laws.Plans.{levelled-least}
+use Rattle.model.specs.Laws.Plans.{levelled-least, found-plan, plan-found}
 use Rattle.model.specs.Laws.Running.{running-ranges, running-within, running-sum, running-levelled, running-lows, running-highs}
-use Rattle.model.specs.Laws.Marked.{running-counted, restored-within, running-restored, marked-plan, plan-marked}
+use Rattle.model.specs.Laws.Marked.{running-counted, restored-within, running-restored, restored-running, marked-plan, plan-marked}
 use Rattle.model.specs.Laws.Transfer.{deviation-schur, spread-schur, above-schur}
 use Rattle.model.specs.declared.Limits.{Limits}
 
@@ -60,14 +60,45 @@ module _ {ms ls hs : List ℕ} (marked : Marked ms ls hs) (ranges : Ranges ls hs
       (levelled-reaches-bound (running-ranges ms ranges) total q
       (omega (arith, running-lows marked)) (omega (arith, running-highs marked)) divides)
 
+-- where there is a plan, the levelled shares are one
+pub levelled-marked : {ms ls hs xs : List ℕ} → Marked ms ls hs → Ranges ls hs → (total : ℕ) (limits : Limits)
+    → MarkedPlan ms ls hs total limits xs → MarkedPlan ms ls hs total limits (levelled ls hs total)
+levelled-marked {ms} {ls} {hs} marked ranges total limits plan =
+    let core = running-ranges ms ranges in
+    let same : restored ms (levelled (running ms ls) (running ms hs) total) ≡ levelled ls hs total =
+    ap (restored ms) (sym (running-levelled marked total)) ∙ restored-running marked (levelled-within ranges total) in
+    subst (λ (ys : List ℕ). MarkedPlan ms ls hs total limits ys) same
+    (plan-marked marked (found-plan core total limits (plan-found core (marked-plan marked plan))))
+
 module _ {ms ls hs : List ℕ} (marked : Marked ms ls hs) (total : ℕ) where
   -- shares with the total exist where the running members have them
   pub marked-shares : Shares (running ms ls) (running ms hs) total ↔ Shares ls hs total
-  marked-shares =
-      (λ (ys, within, adds). (restored ms ys, restored-within marked ys within,
-        sym (running-sum marked (restored-within marked ys within)) ∙ ap sum (running-restored marked ys within) ∙ adds),
-      λ (xs, within, adds). (running ms xs, running-within ms within, running-sum marked within ∙ adds))
+  marked-shares = (
+    λ (ys, within, adds). (
+      restored ms ys,
+      restored-within marked ys within,
+      sym (running-sum marked (restored-within marked ys within)) ∙ ap sum (running-restored marked ys within) ∙ adds,
+    ),
+    λ (xs, within, adds). (running ms xs, running-within ms within, running-sum marked within ∙ adds),
+  )
 
   -- and so do plans
   pub marked-plans : (limits : Limits) → Plans (running ms ls) (running ms hs) total limits ↔ MarkedPlans ms ls hs total limits
   marked-plans limits = (λ (ys, plan). (restored ms ys, plan-marked marked plan), λ (xs, plan). (running ms xs, marked-plan marked plan))
+
+-- where no member runs, shares exist for the total 0 alone
+pub all-shut : {ms ls hs : List ℕ} → Marked ms ls hs → running ms ls ≡ [] → (total : ℕ) → Shares ls hs total → total ≡ 0
+unfolding sum
+all-shut {ms} {ls} {hs} marked none total (xs, within, adds) =
+    let shared : sum (running ms xs) ≡ total = running-sum marked within ∙ adds in
+    let nobody : length (running ms xs) ≡ 0 = running-counted ms within ∙ ap length none in
+    by (running ms xs) nobody shared
+  where
+    by : (ys : List ℕ) → length ys ≡ 0 → sum ys ≡ total → total ≡ 0
+    by [] empty is = sym is
+    by (y ∷ ys) empty is = absurd (omega arith)
+
+-- and both figures are 0
+pub all-shut-figures : (ms xs : List ℕ) → running ms xs ≡ [] → (markedDeviation ms 0 xs ≡ 0) × (markedSpread ms 0 xs ≡ 0)
+unfolding deviation spread sumOf
+all-shut-figures ms xs none = rw none (refl, refl)
