@@ -2,3 +2,5 @@
 pub mod Storing
 pub mod Reading
 pub mod Walk
+pub mod Marks
+pub mod Members

@@ -17,6 +17,11 @@ size group = length (group .members)
 abbrev pub unitOf : Group → ℕ → ℕ
 unitOf group k = getD (group .members) k 0
 
+-- 01: "A group names n different units", each one of the job's; 02: of its members some may run, or none
+pub record SoundMembers (count : ℕ) (group : Group) : Type 0 where
+  pub below : (k : ℕ) → k < size group → unitOf group k < count
+  pub different : (j k : ℕ) → j < size group → k < size group → unitOf group j ≡ unitOf group k → j ≡ k
+
 -- 01: "A group names n different units", at least one, each one of the job's
 pub record SoundGroup (count : ℕ) (group : Group) : Type 0 where
   pub some : 0 < size group

@@ -1,19 +1,22 @@
-// The groups of a job as one flat list of numbers: its layout is written and read here alone.
+// The groups of a job and the marks of its units as one flat list of numbers: its layout is written and read here alone.
 use model::Limit;
 use model::Limits;
-ghost use Prim.Native.Nat.{_+_, _≤_};
+ghost use Prim.Native.Nat.{_+_, _≤_, _<_};
 ghost use mathlib.Core.Path.{_≡_};
-ghost use lib.ListN.{length};
+ghost use lib.ListN.{length, set};
 ghost use lib.Seq.{sets};
-ghost use Rattle.groups.specs.Inner.Flat.{mostFlat, Coded, limitCode, limitOf, headOf, storedAt, WholeAt};
+ghost use Rattle.groups.specs.Inner.Flat.{mostFlat, marksFrom, Coded, limitCode, limitOf, headOf, storedAt, WholeAt};
 
 // The numbers in front of a group's members: total, deviation limit, spread limit, number of members.
 pub const HEAD: usize = 4;
 
-// The numbers that the groups of every job take: 64 heads and 4,096 memberships.
-pub const MOST_FLAT: usize = 4352;
+// Where the marks of the units begin, behind the groups of every job: 64 heads and 4,096 memberships.
+pub const MARKS: usize = 4352;
 
-// Room for the groups of every job. What it holds is not said, so that no proof above opens its numbers.
+// The numbers that every job takes: its groups, and a mark for each of 256 units.
+pub const MOST_FLAT: usize = 4608;
+
+// Room for the groups and marks of every job. What it holds is not said, so that no proof above opens its numbers.
 pub fn flat_room() -> [u64; MOST_FLAT]
     ensures { λ r. ⌜ mostFlat ≤ length r ⌝ }
 {
@@ -83,4 +86,12 @@ pub fn group_at(flat: &[u64], at: usize) -> Stored
         count,
         next: from + count,
     }
+}
+
+// Writes the mark of a unit: 0 for a running one, 1 for a shut one.
+pub fn put_mark(flat: &mut [u64], unit: usize, mark: u64)
+    requires { ⌜ marksFrom + unit < length (now flat) ⌝ }
+    ensures { λ _. ⌜ now (flat .exit) ≡ set (now (flat .entry)) (marksFrom + unit) mark ⌝ }
+{
+    flat[MARKS + unit] = mark;
 }

@@ -9,10 +9,25 @@ use Rattle.job.specs.declared.lines.Head.{Head}
 use Rattle.text.specs.Parsed.{Parsed, parsed, failed, andThen, mapped, orElse, word}
 use Rattle.text.specs.Numbers.{numberAfter, printNumber}
 
--- 01: "A unit line holds low, high"
-pub record UnitLine : Type 0 where
-  pub low : ℕ
-  pub high : ℕ
+-- 01: "A unit line holds low, high"; 02: "A line `(shut)` counts as a unit line"
+pub data UnitLine : Type 0 where
+  range : ℕ → ℕ → UnitLine
+  shut : UnitLine
+
+-- its low
+abbrev pub lineLow : UnitLine → ℕ
+lineLow (range low high) = low
+lineLow shut = 0
+
+-- its high; 02: a shut unit has "range 0 to 0"
+abbrev pub lineHigh : UnitLine → ℕ
+lineHigh (range low high) = high
+lineHigh shut = 0
+
+-- its mark; 02: "0 running, 1 shut"
+abbrev pub lineMark : UnitLine → ℕ
+lineMark (range low high) = 0
+lineMark shut = 1
 
 -- 01: "A group line holds total, deviation limit, spread limit and one or more unit numbers"
 pub record GroupLine : Type 0 where
@@ -76,6 +91,15 @@ printMembers (m ∷ ms) = space ++ (printNumber m ++ printMembers ms)
 abbrev pub printUnit : ℕ → ℕ → List ℕ
 printUnit low high = unitOpening ++ (printNumber low ++ (space ++ (printNumber high ++ unitEnding)))
 
+-- (shut) and the line's end
+abbrev pub printShut : List ℕ
+printShut = 40 ∷ 115 ∷ 104 ∷ 117 ∷ 116 ∷ 41 ∷ 10 ∷ []
+
+-- either of them
+abbrev pub printUnitLine : UnitLine → List ℕ
+printUnitLine (range low high) = printUnit low high
+printUnitLine shut = printShut
+
 -- a group line as it is written: total, limits, unit numbers
 abbrev pub printGroup : ℕ → Limits → List ℕ → List ℕ
 printGroup total limits numbers =
@@ -89,7 +113,7 @@ printGroup total limits numbers =
 
 -- a line as it is written: the form of 01
 unfoldable pub printLine : Line → List ℕ
-printLine (unit l) = printUnit (l .low) (l .high)
+printLine (unit l) = printUnitLine l
 printLine (group g) = printGroup (g .total) (g .limits) (g .first ∷ g .others)
 
 -- a word and the number after it, held by a function of its value: the code holds numbers above every limit alike
@@ -100,12 +124,16 @@ numberAs f w s = mapped f (numberAfter w s)
 unfoldable pub limitAs : (ℕ → ℕ) → List ℕ → List ℕ → Parsed Limit
 limitAs f w s = andThen (word w s) (λ u s. orElse (mapped (λ u. Any) (word anyWord s)) (mapped AtMost (numberAs f [] s)))
 
--- a unit line
-unfoldable pub unitAs : (ℕ → ℕ) → List ℕ → Parsed UnitLine
-unitAs f s =
+-- a unit line with its low and high
+unfoldable pub rangeAs : (ℕ → ℕ) → List ℕ → Parsed UnitLine
+rangeAs f s =
     andThen (numberAs f unitOpening s)
     (λ low s. andThen (numberAs f space s)
-    (λ high s. mapped (λ u. record { low = low; high = high }) (word unitEnding s)))
+    (λ high s. mapped (λ u. range low high) (word unitEnding s)))
+
+-- a unit line: 02: `(shut)`, or else low and high
+unfoldable pub unitAs : (ℕ → ℕ) → List ℕ → Parsed UnitLine
+unitAs f s = orElse (mapped (λ u. shut) (word printShut s)) (rangeAs f s)
 
 -- as many members as stand there, at most n
 unfoldable pub membersAs : (ℕ → ℕ) → ℕ → List ℕ → Parsed (List ℕ)

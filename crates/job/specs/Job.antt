@@ -12,12 +12,13 @@ use Rattle.model.specs.Groups.{Group}
 use Rattle.model.specs.declared.Limits.{Limits}
 use Rattle.model.specs.declared.Refusal.{Refusal}
 use Rattle.text.specs.Parsed.{Parsed, parsed, failed}
-use Rattle.job.specs.Form.{UnitLine, GroupLine, Line, unit, group, line}
+use Rattle.job.specs.Form.{UnitLine, lineLow, lineHigh, lineMark, GroupLine, Line, unit, group, line}
 
--- a job: the ranges of its units, and its groups
+-- a job: the ranges of its units, their marks (02: "0 running, 1 shut"), and its groups
 pub record Job : Type 0 where
   pub lows : List ℕ
   pub highs : List ℕ
+  pub marks : List ℕ
   pub groups : List Group
 
 -- 01: "0 to 64 groups"
@@ -58,11 +59,11 @@ unless good number rest = pick good rest number
 -- 01: the refusal of a unit line in the form, 0 where there is none
 unfoldable pub unitVerdict : ℕ → ℕ → UnitLine → ℕ
 unitVerdict units groups l =
-    unless (leb (l .low) greatestShare) 4
-    (unless (leb (l .high) greatestShare) 4
+    unless (leb (lineLow l) greatestShare) 4
+    (unless (leb (lineHigh l) greatestShare) 4
     (unless (eqb groups 0) 5
     (unless (ltb units mostUnits) 6
-    (unless (leb (l .low) (l .high)) 7 0))))
+    (unless (leb (lineLow l) (lineHigh l)) 7 0))))
 
 -- 01: the refusal of a group line by its head and the number of its members, 0 where there is none
 unfoldable pub headVerdict : ℕ → ℕ → ℕ → Limits → ℕ → ℕ
@@ -99,8 +100,14 @@ groupOf g = record { total = g .total; limits = g .limits; members = map memberO
 
 -- the job with one line more
 unfoldable pub add : Job → Line → Job
-add job (unit l) = record { lows = job .lows ++ l .low ∷ []; highs = job .highs ++ l .high ∷ []; groups = job .groups }
-add job (group g) = record { lows = job .lows; highs = job .highs; groups = job .groups ++ groupOf g ∷ [] }
+add job (unit l) =
+    record {
+      lows = job .lows ++ lineLow l ∷ [];
+      highs = job .highs ++ lineHigh l ∷ [];
+      marks = job .marks ++ lineMark l ∷ [];
+      groups = job .groups;
+    }
+add job (group g) = record { lows = job .lows; highs = job .highs; marks = job .marks; groups = job .groups ++ groupOf g ∷ [] }
 
 -- what one line does: the job with it and the rest of the text, or a refusal
 pub data LineStep : Type 0 where
@@ -139,7 +146,7 @@ readLines (suc n) job (b ∷ s) = onward (λ job s. readLines n job s) (stepOn j
 
 -- the job of no line
 abbrev pub noLines : Job
-noLines = record { lows = []; highs = []; groups = [] }
+noLines = record { lows = []; highs = []; marks = []; groups = [] }
 
 -- 01: 10 "no unit line"
 unfoldable pub someUnit : JobOrRefusal → JobOrRefusal

@@ -7,4 +7,5 @@ use Rattle.job.specs.Job.{Job}
 pub record SameButOrder (job other : Job) : Type 0 where
   pub same-lows : job .lows ≡ other .lows
   pub same-highs : job .highs ≡ other .highs
+  pub same-marks : job .marks ≡ other .marks
   pub rearranged : List·Permᴰ (job .groups) (other .groups)

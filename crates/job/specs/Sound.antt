@@ -6,6 +6,7 @@ use mathlib.Core.Path.{_≡_}
 use lib.ListN.{length}
 use Rattle.model.specs.Figures.{greatestDeviation, greatestSpread, limitWithin}
 use Rattle.model.specs.Shares.{Ranges, greatestTotal, mostUnits}
+use Rattle.model.specs.Running.{Marked}
 use Rattle.model.specs.Groups.{Group}
 use Rattle.groups.specs.Memberships.{memberships, SoundGroup}
 use Rattle.job.specs.Job.{Job, mostGroups, mostMemberships}
@@ -25,6 +26,7 @@ pub data AcceptedGroups (units : ℕ) : List Group → Type 0 where
 -- the job of some lines, units or not
 pub record Built (job : Job) : Type 0 where
   pub ranges : Ranges (job .lows) (job .highs)
+  pub marked : Marked (job .marks) (job .lows) (job .highs)
   pub few-units : length (job .lows) ≤ mostUnits
   pub few-groups : length (job .groups) ≤ mostGroups
   pub few-memberships : memberships (job .groups) ≤ mostMemberships

@@ -2,7 +2,7 @@
 use Prim.Native.Nat.{ℕ}
 use mathlib.Core.List.{List, _++_, map}
 use mathlib.Core.Path.{_≡_}
-use Rattle.job.specs.Form.{UnitLine, GroupLine, unit, group, printLine}
+use Rattle.job.specs.Form.{UnitLine, lineLow, lineHigh, lineMark, GroupLine, unit, group, printLine}
 use Rattle.job.specs.Job.{Job, groupOf}
 
 -- a unit line's bytes
@@ -18,6 +18,7 @@ pub record Whole (job : Job) (lines : List (List ℕ)) (final : Job) : Type 0 wh
   pub units : List UnitLine
   pub groups : List GroupLine
   pub lines-are : lines ≡ map unitBytes units ++ map groupBytes groups
-  pub lows-are : final .lows ≡ job .lows ++ map (λ u. u .low) units
-  pub highs-are : final .highs ≡ job .highs ++ map (λ u. u .high) units
+  pub lows-are : final .lows ≡ job .lows ++ map lineLow units
+  pub highs-are : final .highs ≡ job .highs ++ map lineHigh units
+  pub marks-are : final .marks ≡ job .marks ++ map lineMark units
   pub groups-are : final .groups ≡ job .groups ++ map groupOf groups

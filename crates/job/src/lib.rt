@@ -1,4 +1,4 @@
-// Reading a job text: the ranges of its units into a table, and its groups into one flat list.
+// Reading a job text: the ranges of its units into a table, its groups and the marks of its units into one flat list.
 ghost use mathlib.Core.Path.{_≡_};
 ghost use Prim.Native.Nat.{_≤_};
 ghost use mathlib.Core.List.{_++_};
@@ -33,7 +33,7 @@ fn refused(number: u64) -> Reading
     Reading::Refused(Refusal { number, place: 0 })
 }
 
-// Reads a whole text: its ranges to the front of lows and highs, its groups to the front of the flat list.
+// Reads a whole text: its ranges to the front of lows and highs, its groups to the front of the flat list, its marks behind the room for groups.
 pub fn scan(text: &[u8], lows: &mut [u64], highs: &mut [u64], flat: &mut [u64]) -> Reading
     requires { ⌜ (mostUnits ≤ length (now lows)) × (mostUnits ≤ length (now highs)) × (mostFlat ≤ length (now flat)) ⌝ }
     ensures { λ r. ⌜ Scanned (now (text .entry)) (now (lows .entry)) (now (highs .entry)) (now (flat .entry)) (now (lows .exit)) (now (highs .exit)) (now (flat .exit)) r ⌝ }
@@ -44,7 +44,7 @@ pub fn scan(text: &[u8], lows: &mut [u64], highs: &mut [u64], flat: &mut [u64]) 
     scan_lines(text, lows, highs, flat)
 }
 
-// Reads a whole text for its groups alone, to the front of the flat list; its ranges are left aside.
+// Reads a whole text for its groups and marks alone, into the flat list; its ranges are left aside.
 pub fn scan_groups(text: &[u8], flat: &mut [u64]) -> Reading
     requires { ⌜ mostFlat ≤ length (now flat) ⌝ }
     ensures { λ r. ⌜ GroupsScanned (now (text .entry)) (now (flat .entry)) (now (flat .exit)) r ⌝ }

@@ -7,18 +7,27 @@ ghost use Rattle.text.specs.Parsed.{mapped};
 ghost use Rattle.job.specs.Job.{mostBytes, named, memberOf};
 ghost use Rattle.job.specs.Inner.Tally.{tallied, groupTally};
 ghost use Rattle.text.specs.Inner.Numbers.{held};
-ghost use Rattle.job.specs.Form.{space, numberAs, unitAs, limitAs, headAs, membersAs, groupAs};
-ghost use Rattle.job.specs.Inner.LinesRead.{unitSeen, limitSeen, headSeen, membersSeen, groupSeen};
+ghost use Rattle.job.specs.Form.{space, numberAs, rangeAs, unitAs, limitAs, headAs, membersAs, groupAs};
+ghost use Rattle.job.specs.Inner.LinesRead.{keptUnit, unitSeen, limitSeen, headSeen, membersSeen, groupSeen};
 ghost use Rattle.text.specs.Inner.Spots.{counted};
 use model::Limit;
 use model::Limits;
+use model::RUNNING;
+use model::SHUT;
 use text::Number;
 use text::Spot;
 use text::Step;
 
-// What reading a unit line answers: its low and high, and the spot after it.
+// A unit line: its low, its high and its mark, 0 running, 1 shut.
+pub struct Unit {
+    pub low: u64,
+    pub high: u64,
+    pub mark: u64,
+}
+
+// What reading a unit line answers: the unit, and the spot after it.
 pub enum UnitRead {
-    Range(u64, u64, Spot),
+    Is(Unit, Spot),
     Missing,
 }
 
@@ -53,8 +62,9 @@ pub enum GroupRead {
     Missing,
 }
 
-pub fn unit_line(text: &[u8], spot: Spot) -> UnitRead
-    ensures { λ r. ⌜ unitSeen (now (text .entry)) r ≡ unitAs held (drop (spot .at) (now (text .entry))) ⌝ }
+// Reads a unit line with its low and high.
+fn range_line(text: &[u8], spot: Spot) -> UnitRead
+    ensures { λ r. ⌜ unitSeen (now (text .entry)) r ≡ mapped keptUnit (rangeAs held (drop (spot .at) (now (text .entry)))) ⌝ }
 {
     let Number::Value(low, spot) = spot.number_after(text, b"(unit ") else {
         return UnitRead::Missing;
@@ -65,7 +75,28 @@ pub fn unit_line(text: &[u8], spot: Spot) -> UnitRead
     let Step::To(spot) = spot.word(text, b")\n") else {
         return UnitRead::Missing;
     };
-    UnitRead::Range(low, high, spot)
+    let unit = Unit {
+        low,
+        high,
+        mark: RUNNING,
+    };
+    UnitRead::Is(unit, spot)
+}
+
+// Reads a unit line: one that says shut, or one with its low and high.
+pub fn unit_line(text: &[u8], spot: Spot) -> UnitRead
+    ensures { λ r. ⌜ unitSeen (now (text .entry)) r ≡ mapped keptUnit (unitAs held (drop (spot .at) (now (text .entry)))) ⌝ }
+{
+    let shut = spot.word(text, b"(shut)\n");
+    if let Step::To(next) = shut {
+        let unit = Unit {
+            low: 0,
+            high: 0,
+            mark: SHUT,
+        };
+        return UnitRead::Is(unit, next);
+    }
+    range_line(text, spot)
 }
 
 // Reads a word, and a limit after it.

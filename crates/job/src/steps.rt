@@ -4,6 +4,7 @@ ghost use Prim.Native.Nat.{_≤_};
 ghost use lib.ListN.{length};
 ghost use Rattle.groups.specs.Inner.Flat.{mostFlat};
 ghost use Rattle.job.specs.Job.{mostBytes, unitVerdict, headVerdict, distinct};
+ghost use Rattle.job.specs.Form.{range};
 ghost use Rattle.job.specs.Inner.Placed.{Placed, groupNumber};
 ghost use Rattle.job.specs.Inner.Below.{AllBelow};
 ghost use Rattle.job.specs.Inner.Distinct.{freshBy};
@@ -14,11 +15,13 @@ ghost use Rattle.model.specs.Refusals.{refusal};
 use crate::lines::GroupRead;
 use crate::lines::Head;
 use crate::lines::Members;
+use crate::lines::Unit;
 use crate::lines::UnitRead;
 use crate::lines::group_line;
 use crate::lines::unit_line;
 use groups::HEAD;
 use groups::put_group;
+use groups::put_mark;
 use model::Checked;
 use model::GREATEST_DEVIATION;
 use model::GREATEST_SPREAD;
@@ -47,7 +50,7 @@ pub const MOST_MEMBERSHIPS: usize = 4096;
 
 // The refusal of a unit line, 0 where there is none.
 fn unit_verdict(progress: Progress, low: u64, high: u64) -> u64
-    ensures { λ r. ⌜ r ≡ unitVerdict (progress .units) (progress .groups) (record { low = low; high = high }) ⌝ }
+    ensures { λ r. ⌜ r ≡ unitVerdict (progress .units) (progress .groups) (range low high) ⌝ }
 {
     let Checked::Valid(_) = Share::new(low) else {
         return 4;
@@ -147,17 +150,20 @@ fn refuse(progress: Progress, number: u64) -> TakenLine
     TakenLine::Refused(Refusal { number, place })
 }
 
+// Takes a unit line: its low and high into the table, its mark into the flat list.
 fn take_unit(
     progress: Progress,
-    low: u64,
-    high: u64,
+    unit: Unit,
     spot: Spot,
     lows: &mut [u64],
     highs: &mut [u64],
+    flat: &mut [u64],
 ) -> TakenLine
-    requires { ⌜ Bounded progress × (mostUnits ≤ length (now lows)) × (mostUnits ≤ length (now highs)) ⌝ }
-    ensures { λ r. ⌜ UnitTaken progress (record { low = low; high = high }) (spot .at) (now (lows .entry)) (now (highs .entry)) (now (lows .exit)) (now (highs .exit)) r ⌝ }
+    requires { ⌜ Bounded progress × (mostUnits ≤ length (now lows)) × (mostUnits ≤ length (now highs)) × (mostFlat ≤ length (now flat)) ⌝ }
+    ensures { λ r. ⌜ UnitTaken progress unit (spot .at) (now (lows .entry)) (now (highs .entry)) (now (flat .entry)) (now (lows .exit)) (now (highs .exit)) (now (flat .exit)) r ⌝ }
 {
+    let low = unit.low;
+    let high = unit.high;
     let number = unit_verdict(progress, low, high);
     if number != 0 {
         return refuse(progress, number);
@@ -167,6 +173,7 @@ fn take_unit(
     let memberships = progress.memberships;
     lows[units] = low;
     highs[units] = high;
+    put_mark(flat, units, unit.mark);
     let more = Progress {
         units: units + 1,
         groups,
@@ -216,8 +223,8 @@ pub fn take_line(
     requires { ⌜ Bounded progress × (length (now text) ≤ mostBytes) × (mostUnits ≤ length (now lows)) × (mostUnits ≤ length (now highs)) × (mostFlat ≤ length (now flat)) ⌝ }
     ensures { λ r. ⌜ LineTaken (now (text .entry)) progress (spot .at) (now (lows .entry)) (now (highs .entry)) (now (flat .entry)) (now (lows .exit)) (now (highs .exit)) (now (flat .exit)) r ⌝ }
 {
-    let UnitRead::Range(low, high, next) = unit_line(text, spot) else {
+    let UnitRead::Is(unit, next) = unit_line(text, spot) else {
         return take_group(text, spot, progress, flat);
     };
-    take_unit(progress, low, high, next, lows, highs)
+    take_unit(progress, unit, next, lows, highs, flat)
 }

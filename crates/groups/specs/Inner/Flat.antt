@@ -1,4 +1,4 @@
--- The groups of a job as one flat list of numbers: how they are written, and how they are read. Assumes nothing.
+-- The groups of a job and the marks of its units as one flat list of numbers: how they are written, and how they are read. Assumes nothing.
 use Prim.Native.Nat.{ℕ, zero, suc, _+_, _*_, _≤_}
 use mathlib.Core.List.{List, [], _∷_, _++_}
 use lib.ListN.{length, getD, take, drop}
@@ -47,9 +47,17 @@ flatten (g ∷ gs) = flatGroup g ++ flatten gs
 abbrev pub flatLength : ℕ → ℕ → ℕ
 flatLength groups taken = groups * headLength + taken
 
--- the most: 64 groups with 4,096 memberships
+-- the most: 64 groups with 4,096 memberships; behind them begin the marks of the units
+abbrev pub marksFrom : ℕ
+marksFrom = 4352
+
+-- with the marks of 256 units
 abbrev pub mostFlat : ℕ
-mostFlat = 4352
+mostFlat = 4608
+
+-- 02: the marks of so many units, "0 running, 1 shut"
+abbrev pub marksIn : ℕ → List ℕ → List ℕ
+marksIn units flat = take units (drop marksFrom flat)
 
 -- what stands at an index: a group's total and limits, where its members begin, how many they are, where the next group starts
 abbrev pub storedAt : List ℕ → ℕ → Stored

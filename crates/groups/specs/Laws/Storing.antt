@@ -30,7 +30,7 @@ length-flatten [] = refl
 length-flatten (g ∷ gs) = rw (length-append (flatGroup g) (flatten gs), length-flatten gs) (omega arith)
 
 -- a store behind a front leaves it
-set-behind : (p r : List ℕ) (k v : ℕ) → set (p ++ r) (length p + k) v ≡ p ++ set r k v
+pub set-behind : (p r : List ℕ) (k v : ℕ) → set (p ++ r) (length p + k) v ≡ p ++ set r k v
 set-behind [] r k v = let e : 0 + k ≡ k = omega arith in rw e
 set-behind (x ∷ p) r k v = let e : suc (length p) + k ≡ suc (length p + k) = omega arith in rw (e, set-behind p r k v)
 

@@ -4,7 +4,8 @@ use mathlib.Core.List.{List}
 use Rattle.model.specs.declared.Limit.{Limit}
 use Rattle.text.specs.Parsed.{Parsed, parsed, failed}
 use Rattle.text.specs.Inner.Spots.{bytesFrom}
-use Rattle.job.specs.Form.{UnitLine}
+use Rattle.job.specs.Form.{UnitLine, lineLow, lineHigh, lineMark}
+use Rattle.job.specs.declared.lines.Unit.{Unit}
 use Rattle.job.specs.declared.lines.UnitRead.{UnitRead}
 use Rattle.job.specs.declared.lines.UnitRead.the-variants as unit-read
 use Rattle.job.specs.declared.lines.LimitRead.{LimitRead}
@@ -17,9 +18,13 @@ use Rattle.job.specs.Inner.Tally.{Tally, GroupTally}
 use Rattle.job.specs.declared.lines.GroupRead.{GroupRead}
 use Rattle.job.specs.declared.lines.GroupRead.the-variants as group-read
 
+-- a unit line as the code keeps it
+abbrev pub keptUnit : UnitLine → Unit
+keptUnit l = record { low = lineLow l; high = lineHigh l; mark = lineMark l }
+
 -- a unit line and the spot after it
-abbrev pub unitSeen : List ℕ → UnitRead → Parsed UnitLine
-unitSeen text (unit-read.Range low high spot) = parsed (record { low = low; high = high }) (bytesFrom text spot)
+abbrev pub unitSeen : List ℕ → UnitRead → Parsed Unit
+unitSeen text (unit-read.Is unit spot) = parsed unit (bytesFrom text spot)
 unitSeen text unit-read.Missing = failed
 
 -- a limit and the spot after it

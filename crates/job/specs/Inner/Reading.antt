@@ -4,9 +4,10 @@ use mathlib.Core.List.{List, _++_}
 use mathlib.Core.Path.{_≡_}
 use lib.Dec.{eqb}
 use lib.ListN.{length, drop}
+use lib.Seq.{sets}
 use Rattle.model.specs.Shares.{pick}
 use Rattle.job.specs.Job.{Job, accepted, readJob}
-use Rattle.groups.specs.Inner.Flat.{flatten}
+use Rattle.groups.specs.Inner.Flat.{flatten, marksFrom, marksIn}
 use Rattle.job.specs.declared.steps.Progress.{Progress}
 use Rattle.job.specs.declared.Reading.{Reading}
 use Rattle.job.specs.declared.Reading.the-variants.{Read, Refused}
@@ -17,10 +18,12 @@ use Rattle.model.specs.Refusals.{refusal}
 unfoldable pub countsOf : Progress → Reading
 countsOf p = pick (eqb (p .units) 0) (Refused (refusal 10 0)) (Read (p .units) (p .groups))
 
--- what scanning a text for its groups answers, and where it is accepted, what the flat list begins with
+-- what scanning a text for its groups and marks answers, and where it is accepted, what the flat list holds
 pub record GroupsScanned (text flat₀ flat : List ℕ) (r : Reading) : Type 0 where
   pub answer : r ≡ readingOf (readJob text)
-  pub found-flat : (job : Job) → readJob text ≡ accepted job → flat ≡ flatten (job .groups) ++ drop (length (flatten (job .groups))) flat₀
+  pub found-flat : (job : Job) → readJob text ≡ accepted job
+      → flat ≡ flatten (job .groups) ++ drop (length (flatten (job .groups))) (sets flat₀ marksFrom (job .marks))
+  pub found-marks : (job : Job) → readJob text ≡ accepted job → marksIn (length (job .lows)) flat ≡ job .marks
 
 -- what scanning a whole text leaves: its ranges as well
 pub record Scanned (text lows₀ highs₀ flat₀ lows highs flat : List ℕ) (r : Reading) : Type 0 where

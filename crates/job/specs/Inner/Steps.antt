@@ -3,14 +3,17 @@ use Prim.Native.Nat.{ℕ, _≤_}
 use mathlib.Core.List.{List, _++_}
 use mathlib.Core.Path.{_≡_}
 use lib.ListN.{length, drop}
+use lib.Seq.{sets}
 use Rattle.text.specs.Parsed.{mapped, parsed}
 use Rattle.text.specs.Inner.Numbers.{held}
 use Rattle.job.specs.Form.{UnitLine, Line, unit, group, groupAs, line}
 use Rattle.groups.specs.Memberships.{memberships}
-use Rattle.groups.specs.Inner.Flat.{flatten, flatLength}
+use Rattle.groups.specs.Inner.Flat.{flatten, flatLength, marksFrom, marksIn}
 use Rattle.job.specs.Job.{Job, mostGroups, mostMemberships, LineStep, next, stop, stepOn}
+use Rattle.job.specs.declared.lines.Unit.{Unit}
 use Rattle.job.specs.declared.steps.Progress.{Progress}
 use Rattle.job.specs.declared.steps.TakenLine.{TakenLine}
+use Rattle.job.specs.Inner.LinesRead.{keptUnit}
 use Rattle.model.specs.Shares.{mostUnits}
 use Rattle.job.specs.declared.steps.TakenLine.the-variants as taken
 
@@ -34,11 +37,13 @@ pub record ReadSoFar (job : Job) (p : Progress) (l : Lists) : Type 0 where
   pub bounded : Bounded p
   pub units : length (job .lows) ≡ p .units
   pub pairs : length (job .highs) ≡ p .units
+  pub marks : length (job .marks) ≡ p .units
   pub groups : length (job .groups) ≡ p .groups
   pub taken : memberships (job .groups) ≡ p .memberships
   pub lows : l .lows ≡ job .lows ++ drop (p .units) (l .lows₀)
   pub highs : l .highs ≡ job .highs ++ drop (p .units) (l .highs₀)
-  pub flat : l .flat ≡ flatten (job .groups) ++ drop (flatLength (p .groups) (p .memberships)) (l .flat₀)
+  pub flat : l .flat ≡ flatten (job .groups) ++ drop (flatLength (p .groups) (p .memberships)) (sets (l .flat₀) marksFrom (job .marks))
+  pub kept : marksIn (p .units) (l .flat) ≡ job .marks
 
 -- an answer says what a line did
 abbrev pub Answers : List ℕ → Lists → TakenLine → LineStep → Type 0
@@ -50,12 +55,12 @@ abbrev pub lists : List ℕ → List ℕ → List ℕ → List ℕ → List ℕ 
 lists lows₀ highs₀ flat₀ lows highs flat =
     record { lows₀ = lows₀; highs₀ = highs₀; flat₀ = flat₀; lows = lows; highs = highs; flat = flat }
 
--- taking a unit line, whatever the job so far
-abbrev pub UnitTaken : Progress → UnitLine → ℕ → List ℕ → List ℕ → List ℕ → List ℕ → TakenLine → Type 0
-UnitTaken p u at lows highs lows′ highs′ r =
-    (text : List ℕ) (job : Job) (lows₀ highs₀ flat₀ flat : List ℕ)
+-- taking a unit line that the code keeps so, whatever the job so far
+abbrev pub UnitTaken : Progress → Unit → ℕ → List ℕ → List ℕ → List ℕ → List ℕ → List ℕ → List ℕ → TakenLine → Type 0
+UnitTaken p u at lows highs flat lows′ highs′ flat′ r =
+    (text : List ℕ) (job : Job) (lows₀ highs₀ flat₀ : List ℕ) (l : UnitLine) → keptUnit l ≡ u
     → ReadSoFar job p (lists lows₀ highs₀ flat₀ lows highs flat)
-    → Answers text (lists lows₀ highs₀ flat₀ lows′ highs′ flat) r (stepOn job (parsed (unit u) (drop at text)))
+    → Answers text (lists lows₀ highs₀ flat₀ lows′ highs′ flat′) r (stepOn job (parsed (unit l) (drop at text)))
 
 -- taking a group line
 abbrev pub GroupTaken : List ℕ → Progress → ℕ → List ℕ → List ℕ → TakenLine → Type 0

@@ -18,9 +18,9 @@ use Rattle.text.specs.Laws.Parsed.{andThen-mapped, mapped-andThen, andThen-same
 use Rattle.text.specs.Numbers.{numberAfter}
 use Rattle.text.specs.Inner.Numbers.{held, most}
 use Rattle.job.specs.declared.lines.Head.{Head}
-use Rattle.job.specs.Form.{UnitLine, GroupLine, Line, unit, group, unitOpening, space, unitEnding, groupOpening, deviationOpening}
+use Rattle.job.specs.Form.{UnitLine, range, shut, printShut, GroupLine, Line, unit, group, unitOpening, space, unitEnding, groupOpening, deviationOpening}
 use Rattle.job.specs.Form.{spreadOpening, membersOpening, groupEnding, anyWord}
-use Rattle.job.specs.Form.{numberAs, limitAs, unitAs, membersAs, headAs, grouped, groupAs, lineAs, line}
+use Rattle.job.specs.Form.{numberAs, limitAs, rangeAs, unitAs, membersAs, headAs, grouped, groupAs, lineAs, line}
 use Rattle.groups.specs.Memberships.{memberships}
 use Rattle.job.specs.Job.{Job, unitVerdict, headVerdict, membersVerdict, verdict, named, allNamed, add, stepOn, judged, unless, distinct, firstRefusal}
 use Rattle.model.specs.Laws.Tests.{both-left, both-right}
@@ -34,7 +34,8 @@ abbrev limitsBy : (ℕ → ℕ) → Limits → Limits
 limitsBy f l = record { deviation = limitBy f (l .deviation); spread = limitBy f (l .spread) }
 
 abbrev unitBy : (ℕ → ℕ) → UnitLine → UnitLine
-unitBy f l = record { low = f (l .low); high = f (l .high) }
+unitBy f (range low high) = range (f low) (f high)
+unitBy f shut = shut
 
 abbrev headBy : (ℕ → ℕ) → Head → Head
 headBy f h = record { total = f (h .total); limits = limitsBy f (h .limits) }
@@ -81,12 +82,16 @@ module _ (f : ℕ → ℕ) where
         number-by [] s,
       ) (ap (λ p. orElse (mapped (λ u. Any) (word anyWord s)) p) (sym (mapped-twice f AtMost (numberAs same [] s)))))
 
-  unit-by : (s : List ℕ) → unitAs f s ≡ mapped (unitBy f) (unitAs same s)
-  unfolding unitAs
-  unit-by s =
+  range-by : (s : List ℕ) → rangeAs f s ≡ mapped (unitBy f) (rangeAs same s)
+  unfolding rangeAs
+  range-by s =
       carried f (unitBy f) (numberAs same unitOpening s) _ _ (number-by unitOpening s)
       (λ low s. carried f (unitBy f) (numberAs same space s) _ _ (number-by space s)
-      (λ high s. mapped-twice (λ u. record { low = low; high = high }) (unitBy f) (word unitEnding s)))
+      (λ high s. mapped-twice (λ u. range low high) (unitBy f) (word unitEnding s)))
+
+  unit-by : (s : List ℕ) → unitAs f s ≡ mapped (unitBy f) (unitAs same s)
+  unfolding unitAs
+  unit-by s = rw (mapped-orElse, ← mapped-twice (λ u. shut) (unitBy f) (word printShut s), range-by s)
 
   members-by : (n : ℕ) (s : List ℕ) → membersAs f n s ≡ mapped (map f) (membersAs same n s)
   unfolding membersAs mapped
@@ -174,18 +179,19 @@ members-held units ms h = rw (all-held units ms h) (by-named (allNamed units ms)
 
 unit-held : (units groups : ℕ) (l : UnitLine) → unitVerdict units groups (unitBy held l) ≡ unitVerdict units groups l
 unfolding unitVerdict
-unit-held units groups l =
-    elim (decLe (l .low) greatestShare) [
+unit-held units groups shut = refl
+unit-held units groups (range low high) =
+    elim (decLe low greatestShare) [
       | yes p ↦
-          elim (decLe (l .high) greatestShare) [
-            | yes q ↦ let a : held (l .low) ≡ l .low = omega arith in let b : held (l .high) ≡ l .high = omega arith in rw (a, b)
+          elim (decLe high greatestShare) [
+            | yes q ↦ let a : held low ≡ low = omega arith in let b : held high ≡ high = omega arith in rw (a, b)
             | no q ↦ rw (
-              held-leb (l .low) greatestShare (omega arith),
-              held-leb (l .high) greatestShare (omega arith),
-              lt-leb (l .high) greatestShare (omega arith),
+              held-leb low greatestShare (omega arith),
+              held-leb high greatestShare (omega arith),
+              lt-leb high greatestShare (omega arith),
             )
           ]
-      | no p ↦ rw (held-leb (l .low) greatestShare (omega arith), lt-leb (l .low) greatestShare (omega arith))
+      | no p ↦ rw (held-leb low greatestShare (omega arith), lt-leb low greatestShare (omega arith))
     ]
 
 head-held : (groups taken total : ℕ) (limits : Limits) (count : ℕ)
@@ -210,10 +216,11 @@ verdict-held job (group g) h =
 
 line-kept : (job : Job) (l : Line) → length (job .lows) < most → verdict job l ≡ 0 → lineBy held l ≡ l
 unfolding verdict lineBy
-line-kept job (unit l) h e =
-    let g = unit-good _ _ l e in
-    let a : held (l .low) ≡ l .low = omega arith in
-    let b : held (l .high) ≡ l .high = omega arith in
+line-kept job (unit shut) h e = refl
+line-kept job (unit (range low high)) h e =
+    let g = unit-good _ _ (range low high) e in
+    let a : held low ≡ low = omega (arith, g .low-fits) in
+    let b : held high ≡ high = omega (arith, g .high-fits) in
     rw (a, b)
 line-kept job (group g) h e =
     let z = first-zero _ _ e in

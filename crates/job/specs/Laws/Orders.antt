@@ -7,7 +7,7 @@ use native.Mathlib.Omega.{arith}
 use lib.ListN.{length, getD, length-append}
 use Rattle.job.specs.Accepting.{Takes}
 use Rattle.job.specs.Laws.Accepting.{accepted-takes, takes-accepted}
-use Rattle.job.specs.Form.{UnitLine, unit, group, printLine}
+use Rattle.job.specs.Form.{UnitLine, range, shut, unit, group, printLine}
 use Rattle.job.specs.Job.{Job, verdict, add, accepted, readJob}
 use Rattle.job.specs.SameJob.{SameButOrder}
 use Rattle.job.specs.Laws.SameJob.{still-there, verdict-same, add-same, Follows, takes-same, second-first, first-second, swapped-same}
@@ -19,7 +19,8 @@ use Rattle.job.specs.Orders.{OfGroup, Reordered}
 -- a group line is no unit line
 no-unit : {bytes : List ℕ} (u : UnitLine) → OfGroup bytes → bytes ≡ printLine (unit u) → ⊥
 unfolding printLine
-no-unit u begins is = let z : _≡_ {A = ℕ} 103 117 = ap (λ s. getD s 1 0) (sym (begins .1) ∙ is) in omega arith
+no-unit (range low high) begins is = let z : _≡_ {A = ℕ} 103 117 = ap (λ s. getD s 1 0) (sym (begins .1) ∙ is) in omega arith
+no-unit shut begins is = let z : _≡_ {A = ℕ} 103 115 = ap (λ s. getD s 1 0) (sym (begins .1) ∙ is) in omega arith
 
 -- group lines that are taken are taken in every order
 takes-rearranged : {job other final : Job} {lines others : List (List ℕ)} → List·Permᴰ lines others

@@ -11,7 +11,7 @@ use lib.Seq.{take-at}
 use Rattle.model.specs.Shares.{pick}
 use Rattle.model.specs.declared.Refusal.{Refusal}
 use Rattle.text.specs.Parsed.{Parsed, parsed, failed}
-use Rattle.job.specs.Form.{Line, unit, group, printLine, line}
+use Rattle.job.specs.Form.{range, shut, Line, unit, group, printLine, line}
 use Rattle.job.specs.Laws.Spelling.{printed-line}
 use Rattle.job.specs.Job.{Job, next, stop, stepOn, verdict, judged, add, placeOf, JobOrRefusal, accepted, refused, onward, readLines}
 use Rattle.job.specs.Job.{readJob}
@@ -23,7 +23,8 @@ use Rattle.model.specs.Refusals.{refusal}
 -- a line has at least one byte
 pub line-long : (l : Line) → 0 < length (printLine l)
 unfolding printLine
-line-long (unit u) = omega arith
+line-long (unit (range low high)) = omega arith
+line-long (unit shut) = omega arith
 line-long (group g) = omega arith
 
 judged-next : (v : ℕ) (j k : Job) (s r : List ℕ) (place : ℕ) → judged v j s place ≡ next k r → s ≡ r

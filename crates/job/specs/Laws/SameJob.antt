@@ -10,7 +10,7 @@ use Rattle.model.specs.Groups.{Group}
 use Rattle.job.specs.Accepting.{Takes}
 use Rattle.groups.specs.Memberships.{memberships}
 use Rattle.groups.specs.Laws.Storing.{memberships-snoc}
-use Rattle.job.specs.Form.{GroupLine, Line, unit, group}
+use Rattle.job.specs.Form.{lineLow, lineHigh, lineMark, GroupLine, Line, unit, group}
 use Rattle.job.specs.Job.{Job, groupOf, membersVerdict, verdict, add}
 use Rattle.job.specs.Laws.Verdicts.{HeadGood, first-zero, head-good, good-head}
 use Rattle.job.specs.SameJob.{SameButOrder}
@@ -50,13 +50,15 @@ verdict-same same (group g) = rw (same .same-lows, same-length (same .rearranged
 pub add-same : {job other : Job} → SameButOrder job other → (l : Line) → SameButOrder (add job l) (add other l)
 unfolding add
 add-same same (unit u) = record {
-  same-lows = ap (λ ls. ls ++ u .low ∷ []) (same .same-lows);
-  same-highs = ap (λ hs. hs ++ u .high ∷ []) (same .same-highs);
+  same-lows = ap (λ ls. ls ++ lineLow u ∷ []) (same .same-lows);
+  same-highs = ap (λ hs. hs ++ lineHigh u ∷ []) (same .same-highs);
+  same-marks = ap (λ ms. ms ++ lineMark u ∷ []) (same .same-marks);
   rearranged = same .rearranged;
 }
 add-same same (group g) = record {
   same-lows = same .same-lows;
   same-highs = same .same-highs;
+  same-marks = same .same-marks;
   rearranged = Permᴰ·append-right (groupOf g ∷ []) (same .rearranged);
 }
 
@@ -134,18 +136,20 @@ swapped-same g h {job} {other} same =
     record {
       same-lows = same .same-lows;
       same-highs = same .same-highs;
+      same-marks = same .same-marks;
       rearranged = rw (append-assoc (job .groups) (first ∷ []) (second ∷ []), append-assoc (other .groups) (second ∷ []) (first ∷ [])) grown;
     }
 
 -- a job as it is
 pub unchanged : (job : Job) → SameButOrder job job
-unchanged job = record { same-lows = refl; same-highs = refl; rearranged = Permᴰ·refl (job .groups) }
+unchanged job = record { same-lows = refl; same-highs = refl; same-marks = refl; rearranged = Permᴰ·refl (job .groups) }
 
 -- one order after another
 pub order-on : {first second third : Job} → SameButOrder first second → SameButOrder second third → SameButOrder first third
 order-on a b = record {
   same-lows = a .same-lows ∙ b .same-lows;
   same-highs = a .same-highs ∙ b .same-highs;
+  same-marks = a .same-marks ∙ b .same-marks;
   rearranged = List·Permᴰ·trans (a .rearranged) (b .rearranged);
 }
 

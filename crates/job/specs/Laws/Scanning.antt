@@ -44,11 +44,13 @@ start text lows highs flat =
             bounded = record { units = omega arith; groups = omega arith; memberships = omega arith };
             units = refl;
             pairs = refl;
+            marks = refl;
             groups = refl;
             taken = refl;
             lows = refl;
             highs = refl;
             flat = refl;
+            kept = refl;
           };
       enough = omega arith;
       same = refl;
@@ -99,7 +101,7 @@ module _ (text lows₀ highs₀ flat₀ lows highs flat : List ℕ) where
   pub scanned-refused : (r : Refusal) → readJob text ≡ refused r → Scanned text lows₀ highs₀ flat₀ lows highs flat (Refused r)
   scanned-refused r e =
       record {
-        groups = record { answer = rw e; found-flat = λ job f. absurd (never e f) };
+        groups = record { answer = rw e; found-flat = λ job f. absurd (never e f); found-marks = λ job f. absurd (never e f) };
         found-lows = λ job f. absurd (never e f);
         found-highs = λ job f. absurd (never e f);
         pairs = λ job f. absurd (never e f);
@@ -114,6 +116,7 @@ module _ (text lows₀ highs₀ flat₀ lows highs flat : List ℕ) where
         groups = record {
           answer = rw (e, holds .units, holds .groups);
           found-flat = λ k f. rw (← held k f, length-flatten (job .groups), holds .groups, holds .taken) (holds .flat);
+          found-marks = λ k f. rw (← held k f, holds .units) (holds .kept);
         };
         found-lows = λ k f. rw (← held k f, holds .units) (holds .lows);
         found-highs = λ k f. rw (← held k f, holds .units) (holds .highs);

@@ -9,9 +9,10 @@ use borrow.Author.Tests.{ne-eqb, eq-eqb}
 use lib.Dec.{leb}
 use lib.ListN.{length, length-append, length-map}
 use Rattle.model.specs.Shares.{pick, greatestShare, Ranges, none as no-ranges, also as and-range}
+use Rattle.model.specs.Running.{Marked}
 use Rattle.model.specs.Groups.{Group}
 use Rattle.text.specs.Parsed.{Parsed, parsed, failed}
-use Rattle.job.specs.Form.{Line, unit, group, line}
+use Rattle.job.specs.Form.{UnitLine, range, shut, lineLow, lineHigh, lineMark, Line, unit, group, line}
 use Rattle.groups.specs.Memberships.{memberships}
 use Rattle.groups.specs.Laws.Storing.{memberships-snoc}
 use Rattle.job.specs.Job.{Job, mostBytes, groupOf, verdict, add, placeOf, judged, LineStep, next, stop, stepOn, JobOrRefusal, accepted, refused}
@@ -24,6 +25,12 @@ use Rattle.model.specs.Refusals.{refusal}
 ranges-snoc : {ls hs : List ℕ} (l h : ℕ) → Ranges ls hs → l ≤ h → h ≤ greatestShare → Ranges (ls ++ l ∷ []) (hs ++ h ∷ [])
 ranges-snoc l h no-ranges p q = and-range p q no-ranges
 ranges-snoc l h (and-range a b r) p q = and-range a b (ranges-snoc l h r p q)
+
+marked-snoc : {ms ls hs : List ℕ} → Marked ms ls hs → (u : UnitLine) → Marked (ms ++ lineMark u ∷ []) (ls ++ lineLow u ∷ []) (hs ++ lineHigh u ∷ [])
+marked-snoc Marked.none (range low high) = Marked.run Marked.none
+marked-snoc Marked.none shut = Marked.shut Marked.none
+marked-snoc (Marked.run r) u = Marked.run (marked-snoc r u)
+marked-snoc (Marked.shut r) u = Marked.shut (marked-snoc r u)
 
 groups-snoc : {units : ℕ} {gs : List Group} {g : Group} → AcceptedGroups units gs → AcceptedGroup units g → AcceptedGroups units (gs ++ g ∷ [])
 groups-snoc none s = also s none
@@ -39,7 +46,8 @@ unfolding verdict add
 built-on job (unit u) b e =
     let g = unit-good _ _ u e in
     record {
-      ranges = ranges-snoc (u .low) (u .high) (b .ranges) (g .ordered) (g .high-fits);
+      ranges = ranges-snoc (lineLow u) (lineHigh u) (b .ranges) (g .ordered) (g .high-fits);
+      marked = marked-snoc (b .marked) u;
       few-units = rw length-append (omega (arith, g .room));
       few-groups = b .few-groups;
       few-memberships = b .few-memberships;
@@ -51,6 +59,7 @@ built-on job (group g) b e =
     let m = members-good _ (g .first ∷ g .others) (z .1) in
     record {
       ranges = b .ranges;
+      marked = b .marked;
       few-units = b .few-units;
       few-groups = rw length-append (omega (arith, k .room));
       few-memberships = rw (memberships-snoc (job .groups) (groupOf g), length-map) (k .fits);
@@ -111,7 +120,7 @@ accepted-sound text job h = by-length (leb (length text) mostBytes) h
   where
     start : Built noLines
     start =
-        record { ranges = no-ranges; few-units = omega arith; few-groups = omega arith; few-memberships = omega arith; groups-sound = none }
+        record { ranges = no-ranges; marked = Marked.none; few-units = omega arith; few-groups = omega arith; few-memberships = omega arith; groups-sound = none }
 
     by-length : (t : Bool) → pick t (someUnit (readLines (length text) noLines text)) (refused (refusal 2 0)) ≡ accepted job → SoundJob job
     by-length true e = sound-unit (readLines (length text) noLines text) job (λ j f. built-lines (length text) noLines text j start f) e

@@ -12,9 +12,9 @@ use Rattle.text.specs.Laws.Parsed.{then-parsed, mapped-parsed, either-parsed, w
 use Rattle.text.specs.Numbers.{numberAfter, printNumber}
 use Rattle.text.specs.Laws.Printed.{NoDigitNext, number-printed, printed-number, number-not-word}
 use Rattle.job.specs.declared.lines.Head.{Head}
-use Rattle.job.specs.Form.{UnitLine, GroupLine, Line, unit, group, unitOpening, unitEnding, groupOpening, deviationOpening, spreadOpening}
+use Rattle.job.specs.Form.{UnitLine, range, shut, printShut, GroupLine, Line, unit, group, unitOpening, unitEnding, groupOpening, deviationOpening, spreadOpening}
 use Rattle.job.specs.Form.{membersOpening, anyWord, space, groupEnding, printLimit, printMembers, printLine}
-use Rattle.job.specs.Form.{numberAs, limitAs, unitAs, membersAs, headAs, grouped, groupAs, lineAs, line}
+use Rattle.job.specs.Form.{numberAs, limitAs, rangeAs, unitAs, membersAs, headAs, grouped, groupAs, lineAs, line}
 
 -- the number as it is
 abbrev same : ℕ → ℕ
@@ -63,14 +63,15 @@ members-long (m ∷ ms) s =
     rw (printMembers, append-assoc (printNumber m) (printMembers ms) s) (omega (arith, length-append (printNumber m) (printMembers ms ++ s)))
 
 not-unit : (g : GroupLine) (s : List ℕ) → unitAs same (printLine (group g) ++ s) ≡ failed
-unfolding unitAs numberAs numberAfter printLine andThen mapped word
+unfolding unitAs rangeAs numberAs numberAfter printLine andThen mapped orElse word
 not-unit g s = refl
 
 read-unit : (l : UnitLine) (s : List ℕ) → unitAs same (printLine (unit l) ++ s) ≡ parsed l s
-unfolding unitAs printLine andThen mapped word NoDigitNext
-read-unit l s =
+unfolding unitAs rangeAs printLine andThen mapped orElse word NoDigitNext
+read-unit shut s = refl
+read-unit (range low high) s =
     simp append-assoc
-    (rw (read-number unitOpening (l .low) (32 ∷ (printNumber (l .high) ++ 41 ∷ 10 ∷ s)) refl, read-number space (l .high) (41 ∷ 10 ∷ s) refl))
+    (rw (read-number unitOpening low (32 ∷ (printNumber high ++ 41 ∷ 10 ∷ s)) refl, read-number space high (41 ∷ 10 ∷ s) refl))
 
 read-group : (g : GroupLine) (s : List ℕ) → groupAs same (printLine (group g) ++ s) ≡ parsed g s
 unfolding groupAs headAs grouped printLine andThen mapped word NoDigitNext
@@ -134,22 +135,30 @@ printed-members (suc n) s {ms} {r} h =
     (λ e. let i : [] ≡ ms = cc in let k : s ≡ r = cc in rw (← i, k))
     (either-parsed (andThen (numberAs same space s) (λ m s. mapped (λ ms. m ∷ ms) (membersAs same n s))) (parsed [] s) h)
 
-unit-onto : (l : UnitLine) (r : List ℕ)
-    → unitOpening ++ (printNumber (l .low) ++ (space ++ (printNumber (l .high) ++ (unitEnding ++ r)))) ≡ printLine (unit l) ++ r
+range-onto : (low high : ℕ) (r : List ℕ)
+    → unitOpening ++ (printNumber low ++ (space ++ (printNumber high ++ (unitEnding ++ r)))) ≡ printLine (unit (range low high)) ++ r
 unfolding printLine
-unit-onto l r = simp append-assoc
+range-onto low high r = simp append-assoc
 
-printed-unit : (s : List ℕ) {l : UnitLine} {r : List ℕ} → unitAs same s ≡ parsed l r → s ≡ printLine (unit l) ++ r
-unfolding unitAs printLine
-printed-unit s {l} {r} h =
+printed-range : (s : List ℕ) {l : UnitLine} {r : List ℕ} → rangeAs same s ≡ parsed l r → s ≡ printLine (unit l) ++ r
+unfolding rangeAs
+printed-range s {l} {r} h =
     let a = then-parsed (numberAs same unitOpening s) _ h in
     let b = then-parsed (numberAs same space (a .1)) _ (a .3) in
     let e = mapped-parsed _ (word unitEnding (b .1)) (b .3) in
     (printed-numberAs unitOpening s (a .2)
     ∙ ap (λ l. unitOpening ++ (printNumber (a .0) ++ l))
     (printed-numberAs space (a .1) (b .2) ∙ ap (λ l. space ++ (printNumber (b .0) ++ l)) (word-parsed unitEnding (b .1) (e .1))))
-    ∙ unit-onto (record { low = a .0; high = b .0 }) r
+    ∙ range-onto (a .0) (b .0) r
     ∙ ap (λ l. printLine (unit l) ++ r) (e .2)
+
+printed-unit : (s : List ℕ) {l : UnitLine} {r : List ℕ} → unitAs same s ≡ parsed l r → s ≡ printLine (unit l) ++ r
+unfolding unitAs printLine
+printed-unit s h =
+    ⊎-elim
+    (λ e. let m = mapped-parsed (λ u. shut) (word printShut s) e in rw (← m .2) (word-parsed printShut s (m .1)))
+    (λ e. printed-range s e)
+    (either-parsed (mapped (λ u. shut) (word printShut s)) (rangeAs same s) h)
 
 printed-head : (s : List ℕ) {h : Head} {r : List ℕ} → headAs same s ≡ parsed h r
     → s ≡ groupOpening ++ (printNumber (h .total) ++ (deviationOpening ++ (printLimit (h .limits .deviation)

@@ -8,15 +8,18 @@ use lib.Seq.{sets}
 use Rattle.model.specs.declared.Limits.{Limits}
 use Rattle.text.specs.Parsed.{parsed, failed, mapped, orElse}
 use Rattle.text.specs.Inner.Numbers.{held}
-use Rattle.job.specs.Form.{UnitLine, GroupLine, unit, group, unitAs, groupAs, lineAs, line}
+use Rattle.job.specs.Form.{UnitLine, range, lineLow, lineHigh, lineMark, GroupLine, unit, group, unitAs, groupAs, lineAs, line}
 use Rattle.job.specs.Laws.HeldAlike.{step-held}
-use Rattle.groups.specs.Inner.Flat.{mostFlat, headLength, headOf, flatGroup, flatten, flatLength}
+use Rattle.groups.specs.Inner.Flat.{mostFlat, marksFrom, marksIn, headLength, headOf, flatGroup, flatten, flatLength}
+use Rattle.groups.specs.Laws.Marks.{marks-behind, mark-behind, sets-snoc, marks-more}
 use Rattle.groups.specs.Laws.Storing.{flatten-snoc, length-flatten, memberships-snoc, stored, put-behind}
 use Rattle.job.specs.Job.{Job, unitVerdict, headVerdict, membersVerdict, verdict, firstRefusal, memberOf, groupOf, add, placeOf}
 use Rattle.job.specs.Job.{judged, next, stop, stepOn}
 use Rattle.job.specs.Laws.Tally.{numbersOf}
 use Rattle.job.specs.Laws.Verdicts.{unit-good, head-good}
 use Rattle.job.specs.Inner.Steps.{Lists, ReadSoFar}
+use Rattle.job.specs.Inner.LinesRead.{keptUnit}
+use Rattle.job.specs.declared.lines.Unit.{Unit}
 use Rattle.job.specs.declared.steps.Progress.{Progress}
 use Rattle.job.specs.Inner.Taking.{placeAt}
 use Rattle.model.specs.Shares.{mostUnits}
@@ -25,6 +28,12 @@ use Rattle.model.specs.Refusals.{refusal}
 judged-stop : (v : ℕ) (job : Job) (s : List ℕ) (place : ℕ) → (v ≡ 0 → ⊥) → judged v job s place ≡ stop (refusal v place)
 judged-stop zero job s place n = absurd (n refl)
 judged-stop (suc v) job s place n = refl
+
+-- the verdict on a unit line is that on its low and high as the code keeps them
+pub verdict-kept : (p : Progress) (l : UnitLine) (u : Unit) → keptUnit l ≡ u
+    → unitVerdict (p .units) (p .groups) (range (u .low) (u .high)) ≡ unitVerdict (p .units) (p .groups) l
+unfolding unitVerdict
+verdict-kept p l u is = rw (← is)
 
 module _ (job : Job) (p : Progress) (l : Lists) (holds : ReadSoFar job p l) where
   place-held : placeOf job ≡ placeAt p
@@ -54,31 +63,46 @@ module _ (job : Job) (p : Progress) (l : Lists) (holds : ReadSoFar job p l) wher
   room xs d ys e f h =
       omega (arith, ap length f, length-append xs (drop (p .units) d), length-drop (p .units) d)
 
+  -- the flat list with its mark
+  flat-marked : (mark : ℕ) → set (l .flat) (marksFrom + p .units) mark
+      ≡ flatten (job .groups) ++ drop (flatLength (p .groups) (p .memberships)) (sets (l .flat₀) marksFrom (job .marks ++ mark ∷ []))
+  flat-marked mark =
+      let start : ℕ = flatLength (p .groups) (p .memberships) in
+      let groups : length (flatten (job .groups)) ≡ start = length-flatten (job .groups) ∙ rw (holds .groups, holds .taken) in
+      ap (λ f. set f (marksFrom + p .units) mark) (holds .flat)
+      ∙ mark-behind (flatten (job .groups)) (sets (l .flat₀) marksFrom (job .marks)) start (marksFrom + p .units) mark groups
+      (omega (arith, holds .bounded .groups, holds .bounded .memberships))
+      ∙ ap (λ n. flatten (job .groups) ++ drop start (set (sets (l .flat₀) marksFrom (job .marks)) (marksFrom + n) mark)) (sym (holds .marks))
+      ∙ ap (λ f. flatten (job .groups) ++ drop start f) (sets-snoc (l .flat₀) marksFrom (job .marks) mark)
+
   -- the lists with a unit more hold the job with it
   pub unit-holds : (u : UnitLine) → unitVerdict (p .units) (p .groups) u ≡ 0 → mostUnits ≤ length (l .lows) → mostUnits ≤ length (l .highs)
+      → mostFlat ≤ length (l .flat)
       → ReadSoFar (add job (unit u)) (record { units = p .units + 1; groups = p .groups; memberships = p .memberships })
       (record {
         lows₀ = l .lows₀;
         highs₀ = l .highs₀;
         flat₀ = l .flat₀;
-        lows = set (l .lows) (p .units) (u .low);
-        highs = set (l .highs) (p .units) (u .high);
-        flat = l .flat;
+        lows = set (l .lows) (p .units) (lineLow u);
+        highs = set (l .highs) (p .units) (lineHigh u);
+        flat = set (l .flat) (marksFrom + p .units) (lineMark u);
       })
   unfolding add
-  unit-holds u e a b =
+  unit-holds u e a b c =
       let g = unit-good (p .units) (p .groups) u e in
       record {
         bounded = record { units = omega (arith, g .room); groups = holds .bounded .groups; memberships = holds .bounded .memberships };
         units = rw (length-append, holds .units);
         pairs = rw (length-append, holds .pairs);
+        marks = rw (length-append, holds .marks);
         groups = holds .groups;
         taken = holds .taken;
-        lows = rw (holds .lows) (put-behind (job .lows) (l .lows₀) (p .units) (u .low) (holds .units)
+        lows = rw (holds .lows) (put-behind (job .lows) (l .lows₀) (p .units) (lineLow u) (holds .units)
             (room (job .lows) (l .lows₀) (l .lows) (holds .units) (holds .lows) (omega (arith, g .room))));
-        highs = rw (holds .highs) (put-behind (job .highs) (l .highs₀) (p .units) (u .high) (holds .pairs)
+        highs = rw (holds .highs) (put-behind (job .highs) (l .highs₀) (p .units) (lineHigh u) (holds .pairs)
             (room (job .highs) (l .highs₀) (l .highs) (holds .pairs) (holds .highs) (omega (arith, g .room))));
-        flat = holds .flat;
+        flat = flat-marked (lineMark u);
+        kept = marks-more (p .units) (l .flat) (lineMark u) (omega (arith, g .room)) ∙ ap (λ ms. ms ++ lineMark u ∷ []) (holds .kept);
       }
 
 module _ (job : Job) (p : Progress) (l : Lists) (holds : ReadSoFar job p l) (g : GroupLine) where
@@ -106,7 +130,11 @@ module _ (job : Job) (p : Progress) (l : Lists) (holds : ReadSoFar job p l) (g :
   abbrev start : ℕ
   start = flatLength (p .groups) (p .memberships)
 
-  fits : headNumber ≡ 0 → mostFlat ≤ length (l .flat) → start + headLength + length (numbersOf g) ≤ length (l .flat₀)
+  -- what the flat list held before the reading, with the marks
+  abbrev marked : List ℕ
+  marked = sets (l .flat₀) marksFrom (job .marks)
+
+  fits : headNumber ≡ 0 → mostFlat ≤ length (l .flat) → start + headLength + length (numbersOf g) ≤ length marked
   fits e h =
       let k = head-good _ _ (g .total) (g .limits) _ e in
       omega (
@@ -114,8 +142,8 @@ module _ (job : Job) (p : Progress) (l : Lists) (holds : ReadSoFar job p l) (g :
         k .room,
         k .fits,
         ap length (holds .flat),
-        length-append (flatten (job .groups)) (drop start (l .flat₀)),
-        length-drop start (l .flat₀),
+        length-append (flatten (job .groups)) (drop start marked),
+        length-drop start marked,
         length-flatten (job .groups),
         holds .groups,
         holds .taken,
@@ -127,7 +155,7 @@ module _ (job : Job) (p : Progress) (l : Lists) (holds : ReadSoFar job p l) (g :
 
   flat-stored : headNumber ≡ 0 → mostFlat ≤ length (l .flat)
       → sets (sets (l .flat) (start + headLength) (map memberOf (numbersOf g))) start headNumbers
-      ≡ flatten (job .groups ++ groupOf g ∷ []) ++ drop (flatLength (p .groups + 1) (p .memberships + length (numbersOf g))) (l .flat₀)
+      ≡ flatten (job .groups ++ groupOf g ∷ []) ++ drop (flatLength (p .groups + 1) (p .memberships + length (numbersOf g))) marked
   flat-stored e h =
       let ms : List ℕ = map memberOf (numbersOf g) in
       let n : length ms ≡ length (numbersOf g) = length-map (numbersOf g) memberOf in
@@ -136,10 +164,26 @@ module _ (job : Job) (p : Progress) (l : Lists) (holds : ReadSoFar job p l) (g :
       sym (flatten-snoc (job .groups) (groupOf g)) in
       let end : start + headLength + length ms ≡ flatLength (p .groups + 1) (p .memberships + length (numbersOf g)) = omega arith in
       ap (λ f. sets (sets f (start + headLength) ms) start headNumbers) (holds .flat)
-      ∙ ap (λ k. sets (sets (flatten (job .groups) ++ drop start (l .flat₀)) (start + headLength) ms) start (headOf (g .total) (g .limits) k)) (sym n)
-      ∙ stored (g .total) (g .limits) (length ms) ms (flatten (job .groups)) (l .flat₀) start before (omega (arith, fits e h))
-      ∙ ap (λ f. f ++ drop (start + headLength + length ms) (l .flat₀)) whole
-      ∙ ap (λ k. flatten (job .groups ++ groupOf g ∷ []) ++ drop k (l .flat₀)) end
+      ∙ ap (λ k. sets (sets (flatten (job .groups) ++ drop start marked) (start + headLength) ms) start (headOf (g .total) (g .limits) k)) (sym n)
+      ∙ stored (g .total) (g .limits) (length ms) ms (flatten (job .groups)) marked start before (omega (arith, fits e h))
+      ∙ ap (λ f. f ++ drop (start + headLength + length ms) marked) whole
+      ∙ ap (λ k. flatten (job .groups ++ groupOf g ∷ []) ++ drop k marked) end
+
+  -- the marks stay
+  marks-stored : headNumber ≡ 0 → mostFlat ≤ length (l .flat)
+      → marksIn (p .units) (sets (sets (l .flat) (start + headLength) (map memberOf (numbersOf g))) start headNumbers) ≡ job .marks
+  marks-stored e h =
+      let k = head-good _ _ (g .total) (g .limits) _ e in
+      let n : length (map memberOf (numbersOf g)) ≡ length (numbersOf g) = length-map (numbersOf g) memberOf in
+      let before : length (flatten (job .groups)) ≡ start = length-flatten (job .groups) ∙ rw (holds .groups, holds .taken) in
+      let after : length (flatten (job .groups ++ groupOf g ∷ [])) ≡ flatLength (p .groups + 1) (p .memberships + length (numbersOf g)) =
+      length-flatten (job .groups ++ groupOf g ∷ [])
+      ∙ rw (length-append, memberships-snoc (job .groups) (groupOf g), holds .groups, holds .taken, n) in
+      ap (marksIn (p .units)) (flat-stored e h)
+      ∙ marks-behind (p .units) (flatten (job .groups ++ groupOf g ∷ [])) marked _ after (omega (arith, k .room, k .fits))
+      ∙ sym (marks-behind (p .units) (flatten (job .groups)) marked start before (omega (arith, holds .bounded .groups, holds .bounded .memberships)))
+      ∙ ap (marksIn (p .units)) (sym (holds .flat))
+      ∙ holds .kept
 
   -- the lists with a group more hold the job with it
   pub group-holds : (count : ℕ) (flat : List ℕ) → headNumber ≡ 0 → mostFlat ≤ length (l .flat) → length (numbersOf g) ≡ count
@@ -153,11 +197,13 @@ module _ (job : Job) (p : Progress) (l : Lists) (holds : ReadSoFar job p l) (g :
         bounded = record { units = holds .bounded .units; groups = omega (arith, k .room); memberships = omega (arith, k .fits) };
         units = holds .units;
         pairs = holds .pairs;
+        marks = holds .marks;
         groups = rw (length-append, holds .groups);
         taken = rw (memberships-snoc (job .groups) (groupOf g), holds .taken, length-map, ← n);
         lows = holds .lows;
         highs = holds .highs;
         flat = rw (s, ← n) (flat-stored e h);
+        kept = ap (marksIn (p .units)) s ∙ marks-stored e h;
       }
 
 -- equal heads are stored alike

@@ -8,13 +8,14 @@ use native.Mathlib.Nat.{div-lt-self}
 use native.Mathlib.Omega.{arith}
 use borrow.Author.Tests.{ne-eqb, eqb-false}
 use lib.Dec.{eqb}
+use lib.ListN.{take}
 use Rattle.model.specs.Laws.Tests.{neither}
 use Rattle.model.specs.Shares.{pick}
 use Rattle.model.specs.declared.Limit.{Limit}
 use Rattle.model.specs.declared.Limit.the-variants.{Any, AtMost}
 use Rattle.text.specs.Numbers.{printNumber}
 use Rattle.text.specs.Laws.Printed.{print-one, print-more}
-use Rattle.job.specs.Form.{Line, unit, group, unitOpening, groupOpening, deviationOpening, spreadOpening, membersOpening, space, anyWord}
+use Rattle.job.specs.Form.{range, shut, printShut, Line, unit, group, unitOpening, groupOpening, deviationOpening, spreadOpening, membersOpening, space, anyWord}
 use Rattle.job.specs.Form.{printLimit, printMembers, printLine}
 use Rattle.job.specs.Job.{contains}
 use Rattle.job.specs.TextLines.{ahead, linesOf}
@@ -101,9 +102,10 @@ members-ahead (m ∷ ms) {bytes} one =
 -- a line as it is written is one line
 pub printed-one : (l : Line) → OneLine (printLine l)
 unfolding printLine contains
-printed-one (unit l) =
+printed-one (unit (range low high)) =
     line-ahead unitOpening refl
-    (number-ahead (l .low) (line-ahead space refl (number-ahead (l .high) (record { body = 41 ∷ []; ended = refl; inside = refl }))))
+    (number-ahead low (line-ahead space refl (number-ahead high (record { body = 41 ∷ []; ended = refl; inside = refl }))))
+printed-one (unit shut) = record { body = take 6 printShut; ended = refl; inside = refl }
 printed-one (group g) =
     line-ahead groupOpening refl
     (number-ahead (g .total)

@@ -12,7 +12,7 @@ use Rattle.model.specs.Shares.{greatestShare, greatestTotal, mostUnits}
 use Rattle.model.specs.declared.Limit.{Limit}
 use Rattle.model.specs.declared.Limit.the-variants.{Any, AtMost}
 use Rattle.model.specs.declared.Limits.{Limits}
-use Rattle.job.specs.Form.{UnitLine}
+use Rattle.job.specs.Form.{UnitLine, shut, lineLow, lineHigh}
 use Rattle.job.specs.Job.{mostGroups, mostMemberships, allNamed, distinct, unless, unitVerdict, headVerdict, membersVerdict, firstRefusal}
 
 -- a test that holds leaves the verdict to those after it
@@ -46,21 +46,21 @@ first-zero (suc a) b h = absurd (omega arith)
 
 -- a unit line without a refusal
 pub record UnitGood (units groups : ℕ) (l : UnitLine) : Type 0 where
-  pub low-fits : l .low ≤ greatestShare
-  pub high-fits : l .high ≤ greatestShare
+  pub low-fits : lineLow l ≤ greatestShare
+  pub high-fits : lineHigh l ≤ greatestShare
   pub no-group : groups ≡ 0
   pub room : units < mostUnits
-  pub ordered : l .low ≤ l .high
+  pub ordered : lineLow l ≤ lineHigh l
 
 -- so says the verdict 0 of a unit line
 pub unit-good : (units groups : ℕ) (l : UnitLine) → unitVerdict units groups l ≡ 0 → UnitGood units groups l
 unfolding unitVerdict
 unit-good units groups l h =
-    let a = unless-zero (leb (l .low) greatestShare) 3 _ h in
-    let b = unless-zero (leb (l .high) greatestShare) 3 _ (a .1) in
+    let a = unless-zero (leb (lineLow l) greatestShare) 3 _ h in
+    let b = unless-zero (leb (lineHigh l) greatestShare) 3 _ (a .1) in
     let c = unless-zero (eqb groups 0) 4 _ (b .1) in
     let d = unless-zero (ltb units mostUnits) 5 _ (c .1) in
-    let e = unless-zero (leb (l .low) (l .high)) 6 _ (d .1) in
+    let e = unless-zero (leb (lineLow l) (lineHigh l)) 6 _ (d .1) in
     record {
       low-fits = leb-true _ _ (a .0);
       high-fits = leb-true _ _ (b .0);
@@ -74,12 +74,17 @@ pub good-unit : {units groups : ℕ} {l : UnitLine} → UnitGood units groups l 
 unfolding unitVerdict
 good-unit {units} {groups} {l} good =
     rw (
-      le-leb (l .low) greatestShare (good .low-fits),
-      le-leb (l .high) greatestShare (good .high-fits),
+      le-leb (lineLow l) greatestShare (good .low-fits),
+      le-leb (lineHigh l) greatestShare (good .high-fits),
       eq-eqb groups 0 (good .no-group),
       lt-ltb units mostUnits (good .room),
-      le-leb (l .low) (l .high) (good .ordered),
+      le-leb (lineLow l) (lineHigh l) (good .ordered),
     )
+
+-- 02: `(shut)` "counts as a unit line .. with range 0 to 0": after a group line it is 5, as the 257th unit line 6, and never 4 or 7
+pub shut-verdict : (units groups : ℕ) → unitVerdict units groups shut ≡ unless (eqb groups 0) 5 (unless (ltb units mostUnits) 6 0)
+unfolding unitVerdict
+shut-verdict units groups = refl
 
 -- a group line's head without a refusal
 pub record HeadGood (groups taken total : ℕ) (limits : Limits) (count : ℕ) : Type 0 where

@@ -6,7 +6,7 @@ use native.Mathlib.Omega.{arith}
 use lib.ListN.{length, length-append}
 use Rattle.job.specs.Accepting.{Takes}
 use Rattle.job.specs.Laws.Accepting.{accepted-takes}
-use Rattle.job.specs.Form.{GroupLine, unit, group, printLine}
+use Rattle.job.specs.Form.{lineLow, lineHigh, lineMark, GroupLine, unit, group, printLine}
 use Rattle.job.specs.Job.{Job, groupOf, verdict, add, accepted, noLines, readJob}
 use Rattle.job.specs.Orders.{OfGroup, Reordered}
 use Rattle.job.specs.TextLines.{linesOf}
@@ -20,13 +20,14 @@ line-first p q = rw (p, q)
 -- after a group line only group lines are taken
 groups-whole : {job final : Job} {lines : List (List ℕ)} → 1 ≤ length (job .groups) → Takes job lines final
     → (groups : List GroupLine) × (lines ≡ map groupBytes groups)
-    × (final .lows ≡ job .lows) × (final .highs ≡ job .highs) × (final .groups ≡ job .groups ++ map groupOf groups)
+    × (final .lows ≡ job .lows) × (final .highs ≡ job .highs) × (final .marks ≡ job .marks)
+    × (final .groups ≡ job .groups ++ map groupOf groups)
 unfolding verdict add
-groups-whole {job} some (Takes.none is) = ([], refl, rw is, rw is, rw is (sym (append-nil _)))
+groups-whole {job} some (Takes.none is) = ([], refl, rw is, rw is, rw is, rw is (sym (append-nil _)))
 groups-whole some (Takes.also (unit u) is good rest) = absurd (omega (arith, unit-good _ _ u good .no-group))
 groups-whole {job} some (Takes.also (group g) is good rest) =
-    let (groups, lines, lows, highs, found) = groups-whole (omega (arith, length-append (job .groups) (groupOf g ∷ []))) rest in
-    (g ∷ groups, line-first is lines, lows, highs, found ∙ append-assoc (job .groups) (groupOf g ∷ []) (map groupOf groups))
+    let (groups, lines, lows, highs, marks, found) = groups-whole (omega (arith, length-append (job .groups) (groupOf g ∷ []))) rest in
+    (g ∷ groups, line-first is lines, lows, highs, marks, found ∙ append-assoc (job .groups) (groupOf g ∷ []) (map groupOf groups))
 
 -- lines that are taken are unit lines and then group lines
 takes-whole : {job final : Job} {lines : List (List ℕ)} → Takes job lines final → Whole job lines final
@@ -37,6 +38,7 @@ takes-whole {job} (Takes.none is) = record {
   lines-are = refl;
   lows-are = rw is (sym (append-nil _));
   highs-are = rw is (sym (append-nil _));
+  marks-are = rw is (sym (append-nil _));
   groups-are = rw is (sym (append-nil _));
 }
 takes-whole {job} (Takes.also (unit u) is good rest) =
@@ -45,18 +47,20 @@ takes-whole {job} (Takes.also (unit u) is good rest) =
       units = u ∷ whole .units;
       groups = whole .groups;
       lines-are = line-first is (whole .lines-are);
-      lows-are = whole .lows-are ∙ append-assoc (job .lows) (u .low ∷ []) (map (λ u. u .low) (whole .units));
-      highs-are = whole .highs-are ∙ append-assoc (job .highs) (u .high ∷ []) (map (λ u. u .high) (whole .units));
+      lows-are = whole .lows-are ∙ append-assoc (job .lows) (lineLow u ∷ []) (map lineLow (whole .units));
+      highs-are = whole .highs-are ∙ append-assoc (job .highs) (lineHigh u ∷ []) (map lineHigh (whole .units));
+      marks-are = whole .marks-are ∙ append-assoc (job .marks) (lineMark u ∷ []) (map lineMark (whole .units));
       groups-are = whole .groups-are;
     }
 takes-whole {job} (Takes.also (group g) is good rest) =
-    let (groups, lines, lows, highs, found) = groups-whole (omega (arith, length-append (job .groups) (groupOf g ∷ []))) rest in
+    let (groups, lines, lows, highs, marks, found) = groups-whole (omega (arith, length-append (job .groups) (groupOf g ∷ []))) rest in
     record {
       units = [];
       groups = g ∷ groups;
       lines-are = line-first is lines;
       lows-are = lows ∙ sym (append-nil _);
       highs-are = highs ∙ sym (append-nil _);
+      marks-are = marks ∙ sym (append-nil _);
       groups-are = found ∙ append-assoc (job .groups) (groupOf g ∷ []) (map groupOf groups);
     }
 

@@ -6,7 +6,7 @@ use Rattle.model.specs.declared.Limit.the-variants.{Any, AtMost}
 use Rattle.text.specs.Parsed.{andThen, mapped, orElse, word}
 use Rattle.text.specs.Words.{bytes}
 use Rattle.text.specs.Numbers.{number, numberAfter, digits, digitsOf, printNumber}
-use Rattle.job.specs.Form.{Line, unit, group, printLimit, printMembers, printLine, numberAs, limitAs, unitAs, membersAs, headAs, grouped}
+use Rattle.job.specs.Form.{range, Line, unit, group, printLimit, printMembers, printLine, numberAs, limitAs, rangeAs, unitAs, membersAs, headAs, grouped}
 use Rattle.job.specs.Form.{groupAs, lineAs, line}
 use Rattle.groups.specs.Memberships.{memberships}
 use Rattle.groups.specs.Inner.Flat.{flatten}
@@ -18,9 +18,9 @@ use Rattle.job.specs.TextLines.{ahead, linesOf}
 -- the lines of the job text in 01
 unfoldable pub workedLines : List Line
 workedLines =
-    unit (record { low = 0; high = 10 })
-    ∷ unit (record { low = 0; high = 10 })
-    ∷ unit (record { low = 0; high = 10 })
+    unit (range 0 10)
+    ∷ unit (range 0 10)
+    ∷ unit (range 0 10)
     ∷ group (record { total = 10; limits = record { deviation = AtMost 4; spread = Any }; first = 1; others = 2 ∷ [] })
     ∷ group (record { total = 8; limits = record { deviation = Any; spread = AtMost 4 }; first = 2; others = 3 ∷ [] })
     ∷ []
@@ -35,6 +35,7 @@ workedJob =
     record {
       lows = 0 ∷ 0 ∷ 0 ∷ [];
       highs = 10 ∷ 10 ∷ 10 ∷ [];
+      marks = 0 ∷ 0 ∷ 0 ∷ [];
       groups =
           record { total = 10; limits = record { deviation = AtMost 4; spread = Any }; members = 0 ∷ 1 ∷ [] }
           ∷ record { total = 8; limits = record { deviation = Any; spread = AtMost 4 }; members = 1 ∷ 2 ∷ [] }
@@ -45,7 +46,7 @@ workedJob =
 pub worked-reads : readJob (printLines workedLines) ≡ accepted workedJob
 unfolding workedLines printLines workedJob printLine printLimit printMembers printNumber digitsOf readJob
     readLines onward someUnit stepOn verdict unitVerdict headVerdict membersVerdict allNamed contains distinct memberships add
-    line lineAs unitAs groupAs headAs limitAs numberAs membersAs
+    line lineAs unitAs rangeAs groupAs headAs limitAs numberAs membersAs
     grouped numberAfter number digits andThen mapped orElse word
 worked-reads = refl
 
