@@ -4,9 +4,9 @@ use mathlib.Core.List.{List}
 use lib.Dec.{leb}
 use lib.ListN.{length}
 use Rattle.model.specs.Shares.{greatestTotal}
-use Rattle.model.specs.Figures.{figuresOf}
 use Rattle.model.specs.Levels.{level, levelled}
-use Rattle.model.specs.Verdicts.{Shares, Plans}
+use Rattle.model.specs.Running.{markedFigures, MarkedPlans}
+use Rattle.model.specs.Verdicts.{Shares}
 use Rattle.model.specs.declared.Limits.{Limits}
 use Rattle.model.specs.declared.Refusal.{Refusal}
 use Rattle.group.specs.Checks.{amountsWithin}
@@ -20,37 +20,37 @@ use Rattle.group.specs.Findings.{Finding}
 use Rattle.model.specs.Refusals.{refusal}
 
 -- what the checks of levelling find: the total is in its range, and the plan list has room
-abbrev pub LevelChecks : List ℕ → List ℕ → ℕ → ℕ → Check → Type 0
-LevelChecks lows highs total room check = Finding lows highs room (leb total greatestTotal) check
+abbrev pub LevelChecks : List ℕ → List ℕ → List ℕ → ℕ → ℕ → Check → Type 0
+LevelChecks lows highs marks total room check = Finding lows highs marks room (leb total greatestTotal) check
 
 -- 01's words for each answer of levelling
-pub data LevelFinding (lows highs : List ℕ) (total room : ℕ) : Levelling → Type 0 where
+pub data LevelFinding (lows highs marks : List ℕ) (total room : ℕ) : Levelling → Type 0 where
   -- 1, 4 and 7
-  failed : {refused : Refusal} → LevelChecks lows highs total room (Failed refused)
-      → LevelFinding lows highs total room (level.Refused refused)
+  failed : {refused : Refusal} → LevelChecks lows highs marks total room (Failed refused)
+      → LevelFinding lows highs marks total room (level.Refused refused)
   -- 11: no shares in the ranges add up to the total
-  noShares : LevelChecks lows highs total room Passed → (Shares lows highs total → ⊥)
-      → LevelFinding lows highs total room (level.Refused (refusal 11 0))
+  noShares : LevelChecks lows highs marks total room Passed → (Shares lows highs total → ⊥)
+      → LevelFinding lows highs marks total room (level.Refused (refusal 11 0))
   -- such shares exist: the level, and the figures of the levelled shares
-  answered : LevelChecks lows highs total room Passed → Shares lows highs total
-      → LevelFinding lows highs total room
-      (level.Levelled (record { copies = level lows highs total }) (figuresOf (length lows) total (levelled lows highs total)))
+  answered : LevelChecks lows highs marks total room Passed → Shares lows highs total
+      → LevelFinding lows highs marks total room
+      (level.Levelled (record { copies = level lows highs total }) (markedFigures marks total (levelled lows highs total)))
 
 -- what the checks of narrowing find: total and limits are in their ranges
-abbrev pub NarrowChecks : List ℕ → List ℕ → ℕ → Limits → Check → Type 0
-NarrowChecks lows highs total limits check = Finding lows highs (length lows) (amountsWithin total limits) check
+abbrev pub NarrowChecks : List ℕ → List ℕ → List ℕ → ℕ → Limits → Check → Type 0
+NarrowChecks lows highs marks total limits check = Finding lows highs marks (length lows) (amountsWithin total limits) check
 
 -- 01's words for each answer of narrowing
-pub data NarrowFinding (lows highs : List ℕ) (total : ℕ) (limits : Limits) : Narrowing → Type 0 where
+pub data NarrowFinding (lows highs marks : List ℕ) (total : ℕ) (limits : Limits) : Narrowing → Type 0 where
   -- 1, 4 and 7
-  failed : {refused : Refusal} → NarrowChecks lows highs total limits (Failed refused)
-      → NarrowFinding lows highs total limits (narrow.Refused refused)
+  failed : {refused : Refusal} → NarrowChecks lows highs marks total limits (Failed refused)
+      → NarrowFinding lows highs marks total limits (narrow.Refused refused)
   -- 11: no shares in the ranges add up to the total
-  noShares : NarrowChecks lows highs total limits Passed → (Shares lows highs total → ⊥)
-      → NarrowFinding lows highs total limits (narrow.Refused (refusal 11 0))
+  noShares : NarrowChecks lows highs marks total limits Passed → (Shares lows highs total → ⊥)
+      → NarrowFinding lows highs marks total limits (narrow.Refused (refusal 11 0))
   -- 12: such shares exist, and none are a plan
-  noPlan : NarrowChecks lows highs total limits Passed → Shares lows highs total → (Plans lows highs total limits → ⊥)
-      → NarrowFinding lows highs total limits (narrow.Refused (refusal 12 0))
+  noPlan : NarrowChecks lows highs marks total limits Passed → Shares lows highs total → (MarkedPlans marks lows highs total limits → ⊥)
+      → NarrowFinding lows highs marks total limits (narrow.Refused (refusal 12 0))
   -- there is a plan
-  answered : NarrowChecks lows highs total limits Passed → Plans lows highs total limits
-      → NarrowFinding lows highs total limits narrow.Narrowed
+  answered : NarrowChecks lows highs marks total limits Passed → MarkedPlans marks lows highs total limits
+      → NarrowFinding lows highs marks total limits narrow.Narrowed

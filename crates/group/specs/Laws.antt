@@ -8,7 +8,9 @@ pub mod First
 pub mod Flanks
 pub mod Levelling
 pub mod Narrowing
+pub mod Packing
 pub mod Promises
 pub mod Reaching
 pub mod Sound
+pub mod Summing
 pub mod Tabled

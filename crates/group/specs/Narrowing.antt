@@ -2,7 +2,7 @@
 use Prim.Native.Nat.{ℕ}
 use mathlib.Core.List.{List}
 use lib.ListN.{length}
-use Rattle.model.specs.Plans.{turnOf}
+use Rattle.model.specs.Running.{markedTurn}
 use Rattle.model.specs.declared.Limits.{Limits}
 use Rattle.model.specs.declared.Turn.{Turn}
 use Rattle.model.specs.declared.Turn.the-variants.{NoPlan}
@@ -19,9 +19,9 @@ narrowedAfter Passed Turn.Narrowed = Narrowing.Narrowed
 narrowedAfter Passed (NoPlan number) = Refused (record { number = number; place = 0 })
 
 -- 01: narrowing one group from lists
-unfoldable pub narrowing : List ℕ → List ℕ → ℕ → Limits → Narrowing
-narrowing lows highs total limits =
-    narrowedAfter (checkLists lows highs (length lows) (amountsWithin total limits)) (turnOf lows highs total limits)
+unfoldable pub narrowing : List ℕ → List ℕ → List ℕ → ℕ → Limits → Narrowing
+narrowing lows highs marks total limits =
+    narrowedAfter (checkLists lows highs marks (length lows) (amountsWithin total limits)) (markedTurn marks lows highs total limits)
 
 -- 01: on success the lists hold the narrowed ranges, on a refusal they are as they were
 abbrev pub listAfter : Narrowing → List ℕ → List ℕ → List ℕ

@@ -5,15 +5,13 @@ use mathlib.Core.Logic.{_↔_}
 use mathlib.Core.Path.{_≡_}
 use lib.ListN.{length, getD, take, drop}
 use Rattle.model.specs.Shares.{greatestShare, Ranges, Within, sum}
-use Rattle.model.specs.Figures.{deviation, spread, above, figuresOf}
 use Rattle.model.specs.Levels.{totalAt, levelled}
-use Rattle.model.specs.Plans.{narrowedLows, narrowedHighs}
-use Rattle.model.specs.Narrowing.{RangesInside, Taken}
+use Rattle.model.specs.Narrowing.{RangesInside}
+use Rattle.model.specs.Running.{markedDeviation, markedSpread, markedAbove, markedFigures, markedLows, markedHighs, MarkedTaken}
 use Rattle.model.specs.declared.Figures.{Figures}
 use Rattle.model.specs.declared.Limits.{Limits}
 use Rattle.group.specs.Levelling.{levelling, planAfter}
 use Rattle.group.specs.Narrowing.{narrowing, listAfter}
-use Rattle.group.specs.declared.Levelling.the-variants as level
 
 -- 01: the level, "the greatest v from 0 to 1,000,000 with T(v) at most S"
 pub record GreatestLevel (lows highs : List ℕ) (total v : ℕ) : Type 0 where
@@ -21,39 +19,39 @@ pub record GreatestLevel (lows highs : List ℕ) (total v : ℕ) : Type 0 where
   pub fits : totalAt lows highs v ≤ total
   pub greatest : (w : ℕ) → w ≤ greatestShare → totalAt lows highs w ≤ total → w ≤ v
 
--- 01, demand 2: shares in the ranges that add up to the total; none such have a lesser deviation, spread or total above t, for every t
-pub record LeastShares (lows highs : List ℕ) (total : ℕ) (shares : List ℕ) : Type 0 where
+-- 01, demand 2: shares in the ranges that add up to the total; none such have a lesser deviation, spread or total above t, for every t;
+-- 02: all three of the running members
+pub record LeastShares (lows highs marks : List ℕ) (total : ℕ) (shares : List ℕ) : Type 0 where
   pub within : Within lows highs shares
   pub adds : sum shares ≡ total
-  pub leastDeviation : (xs : List ℕ) → Within lows highs xs → sum xs ≡ total
-      → deviation (length lows) total shares ≤ deviation (length lows) total xs
-  pub leastSpread : (xs : List ℕ) → Within lows highs xs → sum xs ≡ total → spread (length lows) total shares ≤ spread (length lows) total xs
-  pub leastAbove : (xs : List ℕ) → Within lows highs xs → sum xs ≡ total → (t : ℕ) → above t shares ≤ above t xs
+  pub leastDeviation : (xs : List ℕ) → Within lows highs xs → sum xs ≡ total → markedDeviation marks total shares ≤ markedDeviation marks total xs
+  pub leastSpread : (xs : List ℕ) → Within lows highs xs → sum xs ≡ total → markedSpread marks total shares ≤ markedSpread marks total xs
+  pub leastAbove : (xs : List ℕ) → Within lows highs xs → sum xs ≡ total → (t : ℕ) → markedAbove marks t shares ≤ markedAbove marks t xs
 
 -- what levelling promises where it answers level v and these figures: the plan list begins with least shares, whose figures they are,
 -- and keeps its numbers past the members
-pub record LevelPromise (lows highs : List ℕ) (total v : ℕ) (answered : Figures) (before after : List ℕ) : Type 0 where
-  pub least : LeastShares lows highs total (take (length lows) after)
+pub record LevelPromise (lows highs marks : List ℕ) (total v : ℕ) (answered : Figures) (before after : List ℕ) : Type 0 where
+  pub least : LeastShares lows highs marks total (take (length lows) after)
   pub past : drop (length lows) after ≡ drop (length lows) before
   pub level : GreatestLevel lows highs total v
-  pub figures : answered ≡ figuresOf (length lows) total (take (length lows) after)
+  pub figures : answered ≡ markedFigures marks total (take (length lows) after)
 
-module _ (lows highs : List ℕ) (total : ℕ) (plan : List ℕ) where
+module _ (lows highs marks : List ℕ) (total : ℕ) (plan : List ℕ) where
   -- the plan list after levelling
   abbrev pub planLeft : List ℕ
-  planLeft = planAfter (levelling lows highs total (length plan)) (levelled lows highs total) plan
+  planLeft = planAfter (levelling lows highs marks total (length plan)) (levelled lows highs total) plan
 
 -- 01, demand 2: ranges inside those at the call, and a value lies in a member's range exactly if some plan within those at the call takes it
-pub record NarrowPromise (lows highs : List ℕ) (total : ℕ) (limits : Limits) (lowsAfter highsAfter : List ℕ) : Type 0 where
+pub record NarrowPromise (lows highs marks : List ℕ) (total : ℕ) (limits : Limits) (lowsAfter highsAfter : List ℕ) : Type 0 where
   pub ranges : Ranges lowsAfter highsAfter
   pub inside : RangesInside lowsAfter highsAfter lows highs
   pub exactly : (i : ℕ) → i < length lows → (v : ℕ)
-      → ((getD lowsAfter i 0 ≤ v) × (v ≤ getD highsAfter i 0)) ↔ Taken lows highs total limits i v
+      → ((getD lowsAfter i 0 ≤ v) × (v ≤ getD highsAfter i 0)) ↔ MarkedTaken marks lows highs total limits i v
 
-module _ (lows highs : List ℕ) (total : ℕ) (limits : Limits) where
+module _ (lows highs marks : List ℕ) (total : ℕ) (limits : Limits) where
   -- the lists after narrowing
   abbrev pub lowsLeft : List ℕ
-  lowsLeft = listAfter (narrowing lows highs total limits) (narrowedLows lows highs total limits) lows
+  lowsLeft = listAfter (narrowing lows highs marks total limits) (markedLows marks lows highs total limits) lows
 
   abbrev pub highsLeft : List ℕ
-  highsLeft = listAfter (narrowing lows highs total limits) (narrowedHighs lows highs total limits) highs
+  highsLeft = listAfter (narrowing lows highs marks total limits) (markedHighs marks lows highs total limits) highs

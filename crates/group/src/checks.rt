@@ -6,11 +6,13 @@ use model::GREATEST_SPREAD;
 use model::GREATEST_TOTAL;
 use model::Limits;
 use model::MOST_UNITS;
+use model::RUNNING;
 use model::Refusal;
+use model::SHUT;
 use model::Share;
 ghost use mathlib.Core.Path.{_≡_};
 ghost use lib.ListN.{length};
-ghost use Rattle.group.specs.Checks.{areShares, firstBeyond, firstCrossed, sized, amountsWithin, refuseIf, checkLists};
+ghost use Rattle.group.specs.Checks.{areShares, unitWithin, unitOrdered, firstBeyond, firstCrossed, sized, amountsWithin, refuseIf, checkLists};
 ghost use Rattle.group.specs.declared.Check.the-variants.{Passed};
 ghost use mathlib.Core.Bool.{true};
 
@@ -27,14 +29,37 @@ fn are_shares(low: u64, high: u64) -> bool
     true
 }
 
-// The place of the first unit with a number beyond the greatest share; 0 where there is none.
-pub fn first_beyond(lows: &[u64], highs: &[u64]) -> u64
-    requires { ⌜ length (now highs) ≡ length (now lows) ⌝ }
-    ensures { λ r. ⌜ r ≡ firstBeyond (now (lows .entry)) (now (highs .entry)) ⌝ }
+// Whether a unit's numbers are in their ranges: both ends are shares, and the mark is 0 or 1.
+fn is_within(low: u64, high: u64, mark: u64) -> bool
+    ensures { λ r. ⌜ r ≡ unitWithin low high mark ⌝ }
+{
+    if !are_shares(low, high) {
+        return false;
+    }
+    mark <= SHUT
+}
+
+// Whether a unit's low is at most its high, and a shut unit's range is 0 to 0.
+fn is_ordered(low: u64, high: u64, mark: u64) -> bool
+    ensures { λ r. ⌜ r ≡ unitOrdered low high mark ⌝ }
+{
+    if mark == RUNNING {
+        return low <= high;
+    }
+    if low != 0 {
+        return false;
+    }
+    high == 0
+}
+
+// The place of the first unit with a number beyond its range; 0 where there is none.
+pub fn first_beyond(lows: &[u64], highs: &[u64], marks: &[u64]) -> u64
+    requires { ⌜ (length (now highs) ≡ length (now lows)) × (length (now marks) ≡ length (now lows)) ⌝ }
+    ensures { λ r. ⌜ r ≡ firstBeyond (now (lows .entry)) (now (highs .entry)) (now (marks .entry)) ⌝ }
 {
     let mut i: usize = 0;
     while i < lows.len() {
-        if !are_shares(lows[i], highs[i]) {
+        if !is_within(lows[i], highs[i], marks[i]) {
             return i as u64 + 1;
         }
         i += 1;
@@ -42,14 +67,14 @@ pub fn first_beyond(lows: &[u64], highs: &[u64]) -> u64
     0
 }
 
-// The place of the first unit with low above high; 0 where there is none.
-pub fn first_crossed(lows: &[u64], highs: &[u64]) -> u64
-    requires { ⌜ length (now highs) ≡ length (now lows) ⌝ }
-    ensures { λ r. ⌜ r ≡ firstCrossed (now (lows .entry)) (now (highs .entry)) ⌝ }
+// The place of the first unit with low above high, or shut and not 0 to 0; 0 where there is none.
+pub fn first_crossed(lows: &[u64], highs: &[u64], marks: &[u64]) -> u64
+    requires { ⌜ (length (now highs) ≡ length (now lows)) × (length (now marks) ≡ length (now lows)) ⌝ }
+    ensures { λ r. ⌜ r ≡ firstCrossed (now (lows .entry)) (now (highs .entry)) (now (marks .entry)) ⌝ }
 {
     let mut i: usize = 0;
     while i < lows.len() {
-        if highs[i] < lows[i] {
+        if !is_ordered(lows[i], highs[i], marks[i]) {
             return i as u64 + 1;
         }
         i += 1;
@@ -58,13 +83,16 @@ pub fn first_crossed(lows: &[u64], highs: &[u64]) -> u64
 }
 
 // Whether lists of these lengths are those of a group, with room for its shares.
-fn is_sized(count: usize, other: usize, room: usize) -> bool
-    ensures { λ r. ⌜ r ≡ sized count other room ⌝ }
+fn is_sized(count: usize, other: usize, marked: usize, room: usize) -> bool
+    ensures { λ r. ⌜ r ≡ sized count other marked room ⌝ }
 {
     if count < 1 {
         return false;
     }
     if count != other {
+        return false;
+    }
+    if count != marked {
         return false;
     }
     if MOST_UNITS < count {
@@ -96,20 +124,20 @@ fn refused(number: u64, place: u64) -> Check
 }
 
 // The first refusal of a group's lists, up to 7; amounts says whether total and limits are in their ranges.
-pub fn check_lists(lows: &[u64], highs: &[u64], room: usize, amounts: bool) -> Check
-    ensures { λ r. ⌜ r ≡ checkLists (now (lows .entry)) (now (highs .entry)) room amounts ⌝ }
+pub fn check_lists(lows: &[u64], highs: &[u64], marks: &[u64], room: usize, amounts: bool) -> Check
+    ensures { λ r. ⌜ r ≡ checkLists (now (lows .entry)) (now (highs .entry)) (now (marks .entry)) room amounts ⌝ }
 {
-    if !is_sized(lows.len(), highs.len(), room) {
+    if !is_sized(lows.len(), highs.len(), marks.len(), room) {
         return refused(1, 0);
     }
-    let beyond = first_beyond(lows, highs);
+    let beyond = first_beyond(lows, highs, marks);
     if 0 < beyond {
         return refused(4, beyond);
     }
     if !amounts {
         return refused(4, 0);
     }
-    let crossed = first_crossed(lows, highs);
+    let crossed = first_crossed(lows, highs, marks);
     if 0 < crossed {
         return refused(7, crossed);
     }

@@ -1,6 +1,8 @@
 // Narrowing a group's ranges: a value stays exactly if the group pinned to it has a plan.
 use crate::ends::farthest_taken;
 use crate::plans::has_shares;
+use crate::running::pack;
+use crate::running::unpack;
 use crate::shares::extra;
 use model::MOST_UNITS;
 use model::Question;
@@ -13,10 +15,11 @@ use probe::probing::has_plan;
 use probe::probing::level_on;
 ghost use mathlib.Core.Path.{_≡_};
 ghost use Prim.Native.Nat.{_≤_};
-ghost use lib.ListN.{length};
+ghost use lib.ListN.{length, take};
 ghost use Rattle.model.specs.Plans.{turnOf, narrowedLows, narrowedHighs};
+ghost use Rattle.model.specs.Running.{Marked};
 ghost use Rattle.group.specs.Sound.{SoundRanges, HasShares};
-ghost use Rattle.group.specs.Inner.Narrowing.{afterTurn, Turned};
+ghost use Rattle.group.specs.Inner.Narrowing.{afterTurn, Turned, MarkedTurned};
 ghost use Rattle.group.specs.Inner.Tabled.{Tabled, TableLists, TableRoom};
 
 // Writes the narrowed ranges of a group that has shares over starts and stops, or says that it has no plan.
@@ -134,4 +137,32 @@ pub fn narrow_core(lows: &mut [u64], highs: &mut [u64], question: Question) -> T
     let mut stops = [0u64; MOST_UNITS];
     let mut table = [0u64; 3078];
     narrow_within(lows, highs, question, &mut starts, &mut stops, &mut table)
+}
+
+// The same for the first members of lists.
+fn narrow_front(lows: &mut [u64], highs: &mut [u64], count: usize, question: Question) -> Turn
+    requires { ⌜ SoundRanges (take count (now lows)) (take count (now highs)) ⌝ }
+    requires { ⌜ (count ≤ length (now lows)) × (count ≤ length (now highs)) ⌝ }
+    ensures { λ r. ⌜ Turned (take count (now (lows .entry))) (take count (now (highs .entry))) (question .total) (question .limits) r (take count (now (lows .exit))) (take count (now (highs .exit))) ⌝ }
+{
+    narrow_core(&mut lows[..count], &mut highs[..count], question)
+}
+
+// Narrows the running members of sound lists in place, or says that there is no plan and leaves them as they were.
+pub fn narrow_running(
+    lows: &mut [u64],
+    highs: &mut [u64],
+    marks: &[u64],
+    question: Question,
+) -> Turn
+    requires { ⌜ SoundRanges (now lows) (now highs) ⌝ }
+    requires { ⌜ Marked (now marks) (now lows) (now highs) ⌝ }
+    ensures { λ r. ⌜ MarkedTurned (now (marks .entry)) (now (lows .entry)) (now (highs .entry)) (question .total) (question .limits) r (now (lows .exit)) (now (highs .exit)) ⌝ }
+{
+    let count = pack(marks, lows);
+    pack(marks, highs);
+    let turn = narrow_front(lows, highs, count, question);
+    unpack(marks, lows, count);
+    unpack(marks, highs, count);
+    turn
 }

@@ -5,7 +5,7 @@ use lib.Dec.{leb}
 use lib.ListN.{length}
 use Rattle.model.specs.Shares.{greatestTotal}
 use Rattle.group.specs.Checks.{checkLists}
-use Rattle.group.specs.Laws.Findings.{check-exactly, passed-sound}
+use Rattle.group.specs.Laws.Findings.{check-exactly, passed-sound, passed-marked}
 use Rattle.group.specs.Levelling.{levelling}
 use Rattle.group.specs.declared.Check.the-variants.{Passed}
 use Rattle.group.proofs.level.Statement.{statement}
@@ -23,9 +23,9 @@ enum-told c = search needs
 -- the lists passed the checks
 module _ (c : tie.After-enum-told) where
   abbrev start : tie.Start
-  start = c .before .before .before .before .before .before
+  start = c .before .before .before .before .before .before .before
 
-  passed : checkLists (start .args .lows .now) (start .args .highs .now) (length (start .args .plan .now))
+  passed : checkLists (start .args .lows .now) (start .args .highs .now) (start .args .marks .now) (length (start .args .plan .now))
       (leb (start .args .total) greatestTotal) ≡ Passed
   passed =
       let answer = c .before .before .check-lists .ensures in
@@ -33,7 +33,9 @@ module _ (c : tie.After-enum-told) where
       cc
 
 level-core-requires : tie.Need-level-core-requires
-level-core-requires c κs = passed-sound (check-exactly _ _ _ _ _ .0 (passed (c .before)))
+level-core-requires c κs =
+    let clear = check-exactly _ _ _ _ _ _ .0 (passed (c .before)) in
+    (passed-sound clear .0, (passed-marked clear, passed-sound clear .1))
 
 returns : tie.Need-returns
 unfolding levelling

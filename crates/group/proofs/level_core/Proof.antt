@@ -28,7 +28,7 @@ returns c = (rw (← c .before .has-shares .ensures, not-true (c .before .has-sh
 -- shares exist
 module _ (c : tie.Else1) where
   abbrev start : tie.Start
-  start = c .before .before .before .before .before
+  start = c .before .before .before .before .before .before
 
   exist : hasShares (start .args .lows .now) (start .args .highs .now) (start .args .total) ≡ true
   exist = rw (← c .before .has-shares .ensures) (not-false (c .before .has-shares .result) (c .if1 .left))
@@ -69,7 +69,7 @@ figures-at-requires : tie.Need-figures-at-requires
 figures-at-requires c κs =
     let exists = c .before .before .before .before .before .before in
     let levels = c .before .before .before .before .before in
-    (start exists .pre .0, levelled-total (shared exists) _ _ (levels .level-at .ensures) (c .remainder-at .ensures))
+    (start exists .pre .0, (start exists .pre .1 .0, levelled-total (shared exists) _ _ (levels .level-at .ensures) (c .remainder-at .ensures)))
 
 fill-plan-requires : tie.Need-fill-plan-requires
 fill-plan-requires c κs = search needs
@@ -88,7 +88,7 @@ returns-3 c =
     let shares : List ℕ = topped (s .args .lows .now) (s .args .highs .now) (levels .level-at .result) left in
     let found : shares ≡ levelled (s .args .lows .now) (s .args .highs .now) (s .args .total) =
     levelled-is _ _ _ _ _ (levels .level-at .ensures) (figures .before .remainder-at .ensures) in (
-      levelled-answer _ _ _ _ _ _ _ (exist (levels .before)) (levels .level-at .ensures) (valid (known .before .before))
+      levelled-answer _ _ _ _ _ _ _ _ (exist (levels .before)) (levels .level-at .ensures) (valid (known .before .before))
           (known .level .given .1) (rw (← found) (figures .figures-at .ensures)),
       rw (levelled-length (s .pre .0), ← found) (c .before .before .fill-plan .ensures),
     )

@@ -3,7 +3,7 @@ use borrow.Author.Needs.{needs}
 use mathlib.Core.Path.{_≡_, refl}
 use lib.ListN.{length}
 use Rattle.group.specs.Checks.{amountsWithin, checkLists}
-use Rattle.group.specs.Laws.Findings.{check-exactly, passed-sound}
+use Rattle.group.specs.Laws.Findings.{check-exactly, passed-sound, passed-marked}
 use Rattle.group.specs.Narrowing.{narrowing}
 use Rattle.group.specs.Laws.Narrowing.{after-narrowed, after-refused, answer-narrowed, answer-refused}
 use Rattle.group.specs.declared.Check.the-variants.{Passed}
@@ -37,9 +37,9 @@ enum-told c = search needs
 -- the lists passed the checks
 module _ (c : tie.After-enum-told) where
   abbrev start : tie.Start
-  start = c .before .before .before .before .before .before .before .before
+  start = c .before .before .before .before .before .before .before .before .before
 
-  passed : checkLists (start .args .lows .now) (start .args .highs .now) (length (start .args .lows .now))
+  passed : checkLists (start .args .lows .now) (start .args .highs .now) (start .args .marks .now) (length (start .args .lows .now))
       (amountsWithin (start .args .total) (start .args .limits)) ≡ Passed
   passed =
       let a = c .before .before in
@@ -48,8 +48,10 @@ module _ (c : tie.After-enum-told) where
       let told = c .enum-told .given in
       cc
 
-narrow-core-requires : tie.Need-narrow-core-requires
-narrow-core-requires c κs = passed-sound (check-exactly _ _ _ _ _ .0 (passed (c .before .before))) .0
+narrow-running-requires : tie.Need-narrow-running-requires
+narrow-running-requires c κs =
+    let clear = check-exactly _ _ _ _ _ _ .0 (passed (c .before .before)) in
+    (passed-sound clear .0, passed-marked clear)
 
 enum-known-number : tie.Need-enum-known-number
 enum-known-number c = search needs
@@ -66,8 +68,8 @@ same-length-4 c = search needs
 returns-2 : tie.Need-returns-2
 returns-2 c =
     let n = c .before .before .before .before .before .before in
-    let turn = n .narrow-core .ensures in (
-      answer-narrowed _ _ _ _ (passed (n .before .before .before)) (turn .answer) (c .enum-told2 .given .1),
+    let turn = n .narrow-running .ensures in (
+      answer-narrowed _ _ _ _ _ (passed (n .before .before .before)) (turn .answer) (c .enum-told2 .given .1),
       (after-narrowed _ _ _ (c .enum-told2 .given .1) (turn .lowsAre), after-narrowed _ _ _ (c .enum-told2 .given .1) (turn .highsAre)),
     )
 
@@ -81,8 +83,8 @@ returns-3 : tie.Need-returns-3
 returns-3 c =
     let m = c .before in
     let n = m .before .before .before .before .before .before in
-    let turn = n .narrow-core .ensures in (
-      answer-refused _ _ _ _ (passed (n .before .before .before)) (turn .answer) (m .number .given .1),
+    let turn = n .narrow-running .ensures in (
+      answer-refused _ _ _ _ _ (passed (n .before .before .before)) (turn .answer) (m .number .given .1),
       (after-refused _ _ _ (m .number .given .1) (turn .lowsAre), after-refused _ _ _ (m .number .given .1) (turn .highsAre)),
     )
 
@@ -97,7 +99,7 @@ narrow-spec =
     same-length-2
     returns
     enum-told
-    narrow-core-requires
+    narrow-running-requires
     enum-known-number
     enum-told-2
     same-length-3

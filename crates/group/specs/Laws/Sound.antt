@@ -10,6 +10,8 @@ use lib.ListN.{length}
 use Rattle.model.specs.Shares.{Ranges, greatestShare, greatestTotal, sum, mostUnits}
 use Rattle.model.specs.Levels.{totalAt, clamped, level, topped, remainder, levelled}
 use Rattle.model.specs.Plans.{hasShares}
+use Rattle.model.specs.Running.{running}
+use Rattle.model.specs.Laws.Running.{running-ranges, running-few}
 use Rattle.model.specs.Laws.Tests.{both, both-left, both-right}
 use Rattle.model.specs.Laws.Lists.{ranges-length, within-length}
 use Rattle.model.specs.Laws.Levelled.{levelled-adds, levelled-within}
@@ -19,6 +21,10 @@ use Rattle.group.specs.Sound.{SoundRanges, HasShares}
 -- what makes ranges sound
 pub sound : {lows highs : List ℕ} → Ranges lows highs → length lows ≤ mostUnits → SoundRanges lows highs
 sound ranges few = record { ranges = ranges; paired = ranges-length ranges; few = few }
+
+-- the running members' ranges are sound too
+pub running-sound : (marks : List ℕ) {lows highs : List ℕ} → SoundRanges lows highs → SoundRanges (running marks lows) (running marks highs)
+running-sound marks {lows} all = sound (running-ranges marks (all .ranges)) (omega (arith, running-few marks lows, all .few))
 
 -- T(v) is at most n times the greatest share
 totalAt-bound : {lows highs : List ℕ} → Ranges lows highs → (v : ℕ) → totalAt lows highs v ≤ length lows * greatestShare

@@ -24,13 +24,13 @@ returns c =
 -- the lists have a group's lengths
 module _ (c : tie.Else1) where
   abbrev start : tie.Start
-  start = c .before .before .before .before
+  start = c .before .before .before .before .before
 
-  passed-1 : sized (length (start .args .lows .now)) (length (start .args .highs .now)) (start .args .room) ≡ true
+  passed-1 : sized (length (start .args .lows .now)) (length (start .args .highs .now)) (length (start .args .marks .now)) (start .args .room) ≡ true
   passed-1 = rw (← c .before .is-sized .ensures) (not-false (c .before .is-sized .result) (c .if1 .left))
 
-  paired : length (start .args .highs .now) ≡ length (start .args .lows .now)
-  paired = sym (sized-of _ _ _ passed-1 .paired)
+  paired : (length (start .args .highs .now) ≡ length (start .args .lows .now)) × (length (start .args .marks .now) ≡ length (start .args .lows .now))
+  paired = (sym (sized-of _ _ _ _ passed-1 .paired), sym (sized-of _ _ _ _ passed-1 .each-marked))
 
 first-beyond-requires : tie.Need-first-beyond-requires
 first-beyond-requires c κs = paired c
@@ -46,7 +46,7 @@ returns-2 c =
 
 -- no unit's number is beyond its range
 passed-2 : (c : tie.Else2)
-    → ltb 0 (firstBeyond (start (c .before .before) .args .lows .now) (start (c .before .before) .args .highs .now)) ≡ false
+    → ltb 0 (firstBeyond (start (c .before .before) .args .lows .now) (start (c .before .before) .args .highs .now) (start (c .before .before) .args .marks .now)) ≡ false
 passed-2 c = rw (← c .before .first-beyond .ensures) (le-ltb 0 _ (c .if2 .left))
 
 refused-requires-3 : tie.Need-refused-requires-3

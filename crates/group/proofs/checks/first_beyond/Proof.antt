@@ -5,35 +5,41 @@ use native.Mathlib.Omega.{arith}
 use mathlib.Core.Path.{refl}
 use Prim.Native.Nat.{_-_, _≤_}
 use lib.ListN.{length}
-use Rattle.group.specs.Checks.{areShares}
+use Rattle.group.specs.Checks.{unitWithin}
 use Rattle.group.specs.Laws.First.{NoneBefore, first-here, first-after, first-nowhere}
 use Rattle.group.proofs.checks.first_beyond.Statement.{statement}
 use Rattle.group.proofs.checks.first_beyond.Tie as tie
 
 abbrev Inv-loop : tie.InvT-loop
-Inv-loop lows highs i₀ i =
-    (i ≤ length lows) × NoneBefore areShares lows highs i
+Inv-loop lows highs marks i₀ i =
+    (i ≤ length lows) × NoneBefore unitWithin lows highs marks i
 
 abbrev μ-loop : tie.MeasureT-loop
-μ-loop lows highs i₀ i = length lows - i
+μ-loop lows highs marks i₀ i = length lows - i
 
 loop-holds : tie.Need-loop-holds Inv-loop μ-loop
 loop-holds c = (search needs, refl)
 
-mul-are-shares : tie.Need-mul-are-shares Inv-loop μ-loop
-mul-are-shares c = search needs
+mul-is-within : tie.Need-mul-is-within Inv-loop μ-loop
+mul-is-within c = search needs
 
-shared-slice-read-are-shares : tie.Need-shared-slice-read-are-shares Inv-loop μ-loop
-shared-slice-read-are-shares c = search needs
+shared-slice-read-is-within : tie.Need-shared-slice-read-is-within Inv-loop μ-loop
+shared-slice-read-is-within c = search needs
 
-mul-are-shares-2 : tie.Need-mul-are-shares-2 Inv-loop μ-loop
-mul-are-shares-2 c = search needs
+mul-is-within-2 : tie.Need-mul-is-within-2 Inv-loop μ-loop
+mul-is-within-2 c = search needs
 
-shared-slice-read-are-shares-2 : tie.Need-shared-slice-read-are-shares-2 Inv-loop μ-loop
-shared-slice-read-are-shares-2 c = search needs
+shared-slice-read-is-within-2 : tie.Need-shared-slice-read-is-within-2 Inv-loop μ-loop
+shared-slice-read-is-within-2 c = search needs
 
-are-shares-requires : tie.Need-are-shares-requires Inv-loop μ-loop
-are-shares-requires c κs = search needs
+mul-is-within-3 : tie.Need-mul-is-within-3 Inv-loop μ-loop
+mul-is-within-3 c = search needs
+
+shared-slice-read-is-within-3 : tie.Need-shared-slice-read-is-within-3 Inv-loop μ-loop
+shared-slice-read-is-within-3 c = search needs
+
+is-within-requires : tie.Need-is-within-requires Inv-loop μ-loop
+is-within-requires c κs = search needs
 
 add-result : tie.Need-add-result Inv-loop μ-loop
 add-result c = search needs
@@ -41,10 +47,10 @@ add-result c = search needs
 returns : tie.Need-returns Inv-loop μ-loop
 returns c =
     let asked = c .before in
-    let turn = asked .before .before .before .before in
-    let s = turn .before .before .before in
-    first-here areShares (s .args .lows .now) (s .args .highs .now) (turn .loop .i) (omega arith) (omega arith) (turn .loop .inv .1)
-    (rw (← asked .are-shares .ensures) (not-true (asked .are-shares .result) (c .if1 .taken)))
+    let turn = asked .before .before .before .before .before in
+    let s = turn .before .before .before .before in
+    first-here unitWithin (s .args .lows .now) (s .args .highs .now) (s .args .marks .now) (turn .loop .i) (omega arith) (omega arith) (omega arith) (turn .loop .inv .1)
+    (rw (← asked .is-within .ensures) (not-true (asked .is-within .result) (c .if1 .taken)))
 
 add-i : tie.Need-add-i Inv-loop μ-loop
 add-i c = search needs
@@ -55,15 +61,15 @@ loop-less c = search needs
 loop-again : tie.Need-loop-again Inv-loop μ-loop
 loop-again c =
     let asked = c .before in
-    let turn = asked .before .before .before .before in
-    let s = turn .before .before .before in (
+    let turn = asked .before .before .before .before .before in
+    let s = turn .before .before .before .before in (
       search needs,
-      first-after areShares (s .args .lows .now) (s .args .highs .now) (turn .loop .i) (omega arith) (omega arith) (turn .loop .inv .1)
-          (rw (← asked .are-shares .ensures) (not-false (asked .are-shares .result) (c .if1 .left))),
+      first-after unitWithin (s .args .lows .now) (s .args .highs .now) (s .args .marks .now) (turn .loop .i) (omega arith) (omega arith) (omega arith) (turn .loop .inv .1)
+          (rw (← asked .is-within .ensures) (not-false (asked .is-within .result) (c .if1 .left))),
     )
 
 returns-2 : tie.Need-returns-2 Inv-loop μ-loop
-returns-2 c = first-nowhere areShares _ _ _ (c .loop-test .left) (c .before .loop .inv .1)
+returns-2 c = first-nowhere unitWithin _ _ _ _ (c .loop-test .left) (c .before .loop .inv .1)
 
 pub first-beyond-spec : {M : Type 1} → statement M
 first-beyond-spec =
@@ -72,11 +78,13 @@ first-beyond-spec =
     Inv-loop
     μ-loop
     loop-holds
-    mul-are-shares
-    shared-slice-read-are-shares
-    mul-are-shares-2
-    shared-slice-read-are-shares-2
-    are-shares-requires
+    mul-is-within
+    shared-slice-read-is-within
+    mul-is-within-2
+    shared-slice-read-is-within-2
+    mul-is-within-3
+    shared-slice-read-is-within-3
+    is-within-requires
     add-result
     returns
     add-i
