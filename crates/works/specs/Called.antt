@@ -15,7 +15,7 @@ use Rattle.works.specs.declared.Settling.the-variants.{Settled, NoPlan, 
 pub record Cleared (text lows highs : List ℕ) (scratch : ℕ) : Type 0 where
   pub found : Job
   pub reads : readJob text ≡ accepted found
-  pub passes : checkTable (length (found .lows)) lows highs scratch ≡ Passed
+  pub passes : checkTable (found .marks) (length (found .lows)) lows highs scratch ≡ Passed
 
 -- the ranges of the first units
 abbrev pub firstOf : ℕ → List ℕ → List ℕ → Table
@@ -31,6 +31,10 @@ module _ {text lows highs : List ℕ} {scratch : ℕ} (cleared : Cleared text lo
   -- the job's groups
   abbrev pub groups : List Group
   groups = cleared .found .groups
+
+  -- 02: the marks of its units
+  abbrev pub marks : List ℕ
+  marks = cleared .found .marks
 
   -- the number of its units
   abbrev pub count : ℕ

@@ -12,6 +12,7 @@ use Rattle.group.specs.declared.Check.the-variants.{Passed, Failed}
 use Rattle.job.specs.Job.{readJob, accepted, refused}
 use Rattle.model.specs.Groups.{Group}
 use Rattle.works.specs.Answers.{answerOf, tableAfter}
+use Rattle.works.specs.Resting.{runningGroups}
 use Rattle.works.specs.Settling.{Outcome, settle}
 use Rattle.works.specs.Tables.{Table, tableOf}
 use Rattle.works.specs.declared.Settling.{Settling}
@@ -31,11 +32,12 @@ settlement answer lows highs = record { answer = answer; lows = lows; highs = hi
 abbrev pub hasRoom : ℕ → ℕ → ℕ → ℕ → Bool
 hasRoom units lows highs scratch = leb units lows && (leb units highs && leb (8 * units) scratch)
 
--- 01: "then 1 for table and scratch, then in settling 4 and after it 7 for the lent ranges, place the first such unit"
-unfoldable pub checkTable : ℕ → List ℕ → List ℕ → ℕ → Check
-checkTable units lows highs scratch =
+-- 01: "then 1 for table and scratch, then in settling 4 and after it 7 for the lent ranges, place the first such unit"; 02: "a shut
+-- member's range other than 0 to 0 is 7, with that unit's place, in a lent table too"
+unfoldable pub checkTable : List ℕ → ℕ → List ℕ → List ℕ → ℕ → Check
+checkTable marks units lows highs scratch =
     refuseIf (not (hasRoom units (length lows) (length highs) scratch)) 1 0
-    (checkLists (take units lows) (take units highs) units true)
+    (checkLists (take units lows) (take units highs) marks units true)
 
 -- the answer of an outcome; the table's entries past the units keep their values
 abbrev pub leaving : Outcome → ℕ → List ℕ → List ℕ → Settlement
@@ -48,17 +50,17 @@ abbrev pub settledAfter : Check → List ℕ → List ℕ → Settlement → Set
 settledAfter (Failed refusal) lows highs next = settlement (Refused refusal) lows highs
 settledAfter Passed lows highs next = next
 
--- settling groups over the first units of a table, with a scratch of so many numbers
-unfoldable pub settleJob : List Group → ℕ → List ℕ → List ℕ → ℕ → Settlement
-settleJob groups units lows highs scratch =
-    settledAfter (checkTable units lows highs scratch) lows highs
-    (leaving (settle groups (tableOf (take units lows) (take units highs))) units lows highs)
+-- settling groups over the first units of a table, with the units' marks and a scratch of so many numbers; 02: each group of its running members
+unfoldable pub settleJob : List ℕ → List Group → ℕ → List ℕ → List ℕ → ℕ → Settlement
+settleJob marks groups units lows highs scratch =
+    settledAfter (checkTable marks units lows highs scratch) lows highs
+    (leaving (settle (runningGroups marks groups) (tableOf (take units lows) (take units highs))) units lows highs)
 
--- 01: settling "takes the groups from the text and opens with the ranges that the table holds"
+-- 01: settling "takes the groups from the text and opens with the ranges that the table holds"; 02: which units are shut the text says
 unfoldable pub settleText : List ℕ → List ℕ → List ℕ → ℕ → Settlement
 settleText text lows highs scratch =
     elim (readJob text) [
-      | accepted found ↦ settleJob (found .groups) (length (found .lows)) lows highs scratch
+      | accepted found ↦ settleJob (found .marks) (found .groups) (length (found .lows)) lows highs scratch
       | refused refusal ↦ settlement (Refused refusal) lows highs
     ]
 

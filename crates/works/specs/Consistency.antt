@@ -6,12 +6,12 @@ use lib.ListN.{getD}
 use Rattle.model.specs.Groups.{Group}
 use Rattle.model.specs.Plans.{Plan}
 use Rattle.works.specs.Tables.{Table, Valid, units, lowOf, highOf, Inside, Place, gather, lowsOf, highsOf}
-use Rattle.groups.specs.Memberships.{size, unitOf, SoundGroup}
+use Rattle.groups.specs.Memberships.{size, unitOf, SoundMembers}
 
 -- the groups and the opening table that the checks ahead of settling let through
 pub record SoundOpening (groups : List Group) (table : Table) : Type 0 where
   pub valid : Valid table
-  pub each : (group : Group) → List·Memᴰ group groups → SoundGroup (units table) group
+  pub each : (group : Group) → List·Memᴰ group groups → SoundMembers (units table) group
 
 -- 01: a unit in no group
 abbrev pub Apart : List Group → ℕ → Type 0
@@ -25,8 +25,9 @@ PlanIn table group xs = Plan (lowsOf table group) (highsOf table group) (group .
 abbrev pub Suits : List Group → Table → List ℕ → Type 0
 Suits groups table xs = (group : Group) → List·Memᴰ group groups → PlanIn table group (gather xs (group .members))
 
--- every value of each member's range is taken by a plan of the group drawn from the table
+-- the group has a plan drawn from the table, also where it has no members, and every value of each member's range is taken by one
 pub record Supported (table : Table) (group : Group) : Type 0 where
+  pub planned : (xs : List ℕ) × PlanIn table group xs
   pub taken : (k : ℕ) → k < size group → (v : ℕ) → lowOf table (unitOf group k) ≤ v → v ≤ highOf table (unitOf group k)
       → (xs : List ℕ) × PlanIn table group xs × (getD xs k 0 ≡ v)
 

@@ -1,15 +1,17 @@
 -- The laws of settling, a file for each topic.
 pub mod Members
 pub mod Sizes
-pub mod Writing
 pub mod Parts
 pub mod Inside
 pub mod Turns
+pub mod Shut
+pub mod Writing
 pub mod Turning
 pub mod Passes
 pub mod Running
 pub mod Ends
 pub mod Settled
+pub mod Resting
 pub mod Checked
 pub mod Accepted
 pub mod Refusals

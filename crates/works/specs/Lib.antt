@@ -3,6 +3,7 @@ pub mod Settling
 pub mod Answers
 pub mod Calls
 pub mod Consistency
+pub mod Resting
 pub mod Known
 pub mod Called
 pub mod Endings

@@ -12,4 +12,4 @@ module _ {text other lows highs : List ℕ} {scratch : ℕ} (cleared : Cleared t
   unfoldable pub reordered-cleared : Cleared other lows highs scratch
   reordered-cleared =
       let (again, reads, same) = reordered-accepted reordered (cleared .reads) in
-      record { found = again; reads = reads; passes = rw (← ap length (same .same-lows)) (cleared .passes) }
+      record { found = again; reads = reads; passes = rw (← ap length (same .same-lows), ← same .same-marks) (cleared .passes) }

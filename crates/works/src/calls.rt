@@ -3,6 +3,7 @@ use crate::Settling;
 use crate::passes::settle_core;
 use group::Check;
 use group::checks::check_lists;
+use groups::MARKS;
 use groups::flat_room;
 use job::Reading;
 use job::scan_groups;
@@ -11,7 +12,7 @@ ghost use mathlib.Core.Path.{_≡_};
 ghost use Prim.Native.Nat.{_≤_};
 ghost use lib.ListN.{length};
 ghost use Rattle.model.specs.Shares.{mostUnits};
-ghost use Rattle.groups.specs.Inner.Flat.{groupsIn};
+ghost use Rattle.groups.specs.Inner.Flat.{groupsIn, marksIn};
 ghost use Rattle.works.specs.Calls.{settlement, hasRoom, checkTable, settleJob, settleText};
 ghost use Rattle.works.specs.Inner.Asked.{Prepared};
 
@@ -29,10 +30,16 @@ fn has_room(units: usize, lows: usize, highs: usize, scratch: usize) -> bool
     8 * units <= scratch
 }
 
-// The first refusal ahead of settling that the table and the scratch cause.
-pub fn check_table(units: usize, lows: &[u64], highs: &[u64], scratch: usize) -> Check
+// The first refusal ahead of settling that the table, over units with these marks, and the scratch cause.
+pub fn check_table(
+    marks: &[u64],
+    units: usize,
+    lows: &[u64],
+    highs: &[u64],
+    scratch: usize,
+) -> Check
     requires { ⌜ units ≤ mostUnits ⌝ }
-    ensures { λ r. ⌜ r ≡ checkTable units (now (lows .entry)) (now (highs .entry)) scratch ⌝ }
+    ensures { λ r. ⌜ r ≡ checkTable (now (marks .entry)) units (now (lows .entry)) (now (highs .entry)) scratch ⌝ }
 {
     if !has_room(units, lows.len(), highs.len(), scratch) {
         return Check::Failed(Refusal {
@@ -40,10 +47,10 @@ pub fn check_table(units: usize, lows: &[u64], highs: &[u64], scratch: usize) ->
             place: 0,
         });
     }
-    check_lists(&lows[..units], &highs[..units], units, true)
+    check_lists(&lows[..units], &highs[..units], marks, units, true)
 }
 
-// Settles the groups of a flat list over the first units of a table.
+// Settles the groups of a flat list over the first units of a table, with the marks that the list holds.
 pub fn settle_job(
     flat: &[u64],
     groups: u64,
@@ -53,9 +60,11 @@ pub fn settle_job(
     scratch: &mut [u64],
 ) -> Settling
     requires { ⌜ Prepared (now flat) groups units ⌝ }
-    ensures { λ r. ⌜ settlement r (now (lows .exit)) (now (highs .exit)) ≡ settleJob (groupsIn groups (now (flat .entry))) units (now (lows .entry)) (now (highs .entry)) (length (now (scratch .entry))) ⌝ }
+    ensures { λ r. ⌜ settlement r (now (lows .exit)) (now (highs .exit)) ≡ settleJob (marksIn units (now (flat .entry))) (groupsIn groups (now (flat .entry))) units (now (lows .entry)) (now (highs .entry)) (length (now (scratch .entry))) ⌝ }
 {
-    let check = check_table(units, lows, highs, scratch.len());
+    let first = MARKS;
+    let behind = first + units;
+    let check = check_table(&flat[first..behind], units, lows, highs, scratch.len());
     match check {
         Check::Failed(refusal) => Settling::Refused(refusal),
         Check::Passed => settle_core(

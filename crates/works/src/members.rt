@@ -1,6 +1,8 @@
 // The ranges of a group's members in the table: gathered, and written back.
+use model::RUNNING;
 ghost use mathlib.Core.Path.{_≡_};
 ghost use lib.ListN.{length};
+ghost use Rattle.works.specs.Inner.Asked.{Listed, MemberRoom, RunningGathered, runningMembers};
 ghost use Rattle.works.specs.Tables.{Named, gather, scatter};
 
 // Writes the members' entries over a list.
@@ -16,15 +18,56 @@ pub fn gather(entries: &[u64], members: &[u64], out: &mut [u64])
     }
 }
 
-// Replaces the members' entries by the given values.
-pub fn scatter(entries: &mut [u64], members: &[u64], values: &[u64])
-    requires { ⌜ Named (length (now entries)) (now members) ⌝ }
-    requires { ⌜ length (now values) ≡ length (now members) ⌝ }
-    ensures { λ _. ⌜ now (entries .exit) ≡ scatter (now (entries .entry)) (now (members .entry)) (now (values .entry)) ⌝ }
+// Writes the running members' ranges over the first numbers of two lists, and answers how many they are.
+pub fn gather_running(
+    members: &[u64],
+    marks: &[u64],
+    lows: &[u64],
+    highs: &[u64],
+    member_lows: &mut [u64],
+    member_highs: &mut [u64],
+) -> usize
+    requires { ⌜ Listed (now members) (now marks) (now lows) (now highs) ⌝ }
+    requires { ⌜ MemberRoom (now «member_lows») (now «member_highs») ⌝ }
+    ensures { λ r. ⌜ RunningGathered (now (members .entry)) (now (marks .entry)) (now (lows .entry)) (now (highs .entry)) (now («member_lows» .exit)) (now («member_highs» .exit)) r ⌝ }
 {
+    let mut count: usize = 0;
     let mut k: usize = 0;
     while k < members.len() {
-        entries[members[k] as usize] = values[k];
+        let unit = members[k] as usize;
+        if marks[unit] == RUNNING {
+            member_lows[count] = lows[unit];
+            member_highs[count] = highs[unit];
+            count += 1;
+        }
+        k += 1;
+    }
+    count
+}
+
+// Replaces the running members' ranges by the first numbers of two lists.
+pub fn scatter_running(
+    members: &[u64],
+    marks: &[u64],
+    lows: &mut [u64],
+    highs: &mut [u64],
+    member_lows: &[u64],
+    member_highs: &[u64],
+)
+    requires { ⌜ Listed (now members) (now marks) (now lows) (now highs) ⌝ }
+    requires { ⌜ MemberRoom (now «member_lows») (now «member_highs») ⌝ }
+    ensures { λ _. ⌜ now (lows .exit) ≡ scatter (now (lows .entry)) (runningMembers (now (marks .entry)) (now (members .entry))) (now («member_lows» .entry)) ⌝ }
+    ensures { λ _. ⌜ now (highs .exit) ≡ scatter (now (highs .entry)) (runningMembers (now (marks .entry)) (now (members .entry))) (now («member_highs» .entry)) ⌝ }
+{
+    let mut count: usize = 0;
+    let mut k: usize = 0;
+    while k < members.len() {
+        let unit = members[k] as usize;
+        if marks[unit] == RUNNING {
+            lows[unit] = member_lows[count];
+            highs[unit] = member_highs[count];
+            count += 1;
+        }
         k += 1;
     }
 }

@@ -12,8 +12,7 @@ ghost use mathlib.Core.Path.{_≡_};
 ghost use lib.ListN.{length};
 ghost use Rattle.model.specs.Known.{refusedBy};
 ghost use Rattle.works.specs.Answers.{answerOf, tableAfter};
-ghost use Rattle.groups.specs.Inner.Flat.{groupsIn};
-ghost use Rattle.works.specs.Inner.Asked.{MemberRoom, Opening};
+ghost use Rattle.works.specs.Inner.Asked.{MemberRoom, Opening, runningIn};
 ghost use Rattle.works.specs.Settling.{settle};
 ghost use Rattle.works.specs.Tables.{tableOf};
 
@@ -38,8 +37,8 @@ fn run_passes(
 ) -> Settling
     requires { ⌜ Opening (now flat) groups (tableOf (now lows) (now highs)) ⌝ }
     requires { ⌜ MemberRoom (now «member_lows») (now «member_highs») ⌝ }
-    ensures { λ r. ⌜ r ≡ answerOf (settle (groupsIn groups (now (flat .entry))) (tableOf (now (lows .entry)) (now (highs .entry)))) ⌝ }
-    ensures { λ _. ⌜ tableOf (now (lows .exit)) (now (highs .exit)) ≡ tableAfter (settle (groupsIn groups (now (flat .entry))) (tableOf (now (lows .entry)) (now (highs .entry)))) (tableOf (now (lows .exit)) (now (highs .exit))) ⌝ }
+    ensures { λ r. ⌜ r ≡ answerOf (settle (runningIn groups (length (now (lows .entry))) (now (flat .entry))) (tableOf (now (lows .entry)) (now (highs .entry)))) ⌝ }
+    ensures { λ _. ⌜ tableOf (now (lows .exit)) (now (highs .exit)) ≡ tableAfter (settle (runningIn groups (length (now (lows .entry))) (now (flat .entry))) (tableOf (now (lows .entry)) (now (highs .entry)))) (tableOf (now (lows .exit)) (now (highs .exit))) ⌝ }
 {
     let mut passes: u64 = 0;
     let mut place: u64 = 0;
@@ -73,8 +72,8 @@ fn run_passes(
 // Settles the table in member lists of its own; where a group has no plan, the table is left as it then was.
 fn settle_in_place(flat: &[u64], groups: u64, lows: &mut [u64], highs: &mut [u64]) -> Settling
     requires { ⌜ Opening (now flat) groups (tableOf (now lows) (now highs)) ⌝ }
-    ensures { λ r. ⌜ r ≡ answerOf (settle (groupsIn groups (now (flat .entry))) (tableOf (now (lows .entry)) (now (highs .entry)))) ⌝ }
-    ensures { λ _. ⌜ tableOf (now (lows .exit)) (now (highs .exit)) ≡ tableAfter (settle (groupsIn groups (now (flat .entry))) (tableOf (now (lows .entry)) (now (highs .entry)))) (tableOf (now (lows .exit)) (now (highs .exit))) ⌝ }
+    ensures { λ r. ⌜ r ≡ answerOf (settle (runningIn groups (length (now (lows .entry))) (now (flat .entry))) (tableOf (now (lows .entry)) (now (highs .entry)))) ⌝ }
+    ensures { λ _. ⌜ tableOf (now (lows .exit)) (now (highs .exit)) ≡ tableAfter (settle (runningIn groups (length (now (lows .entry))) (now (flat .entry))) (tableOf (now (lows .entry)) (now (highs .entry)))) (tableOf (now (lows .exit)) (now (highs .exit))) ⌝ }
 {
     let mut member_lows = room();
     let mut member_highs = room();
@@ -98,8 +97,8 @@ pub fn settle_core(
 ) -> Settling
     requires { ⌜ Opening (now flat) groups (tableOf (now lows) (now highs)) ⌝ }
     requires { ⌜ length (now lows) + length (now highs) ≤ length (now scratch) ⌝ }
-    ensures { λ r. ⌜ r ≡ answerOf (settle (groupsIn groups (now (flat .entry))) (tableOf (now (lows .entry)) (now (highs .entry)))) ⌝ }
-    ensures { λ _. ⌜ tableOf (now (lows .exit)) (now (highs .exit)) ≡ tableAfter (settle (groupsIn groups (now (flat .entry))) (tableOf (now (lows .entry)) (now (highs .entry)))) (tableOf (now (lows .entry)) (now (highs .entry))) ⌝ }
+    ensures { λ r. ⌜ r ≡ answerOf (settle (runningIn groups (length (now (lows .entry))) (now (flat .entry))) (tableOf (now (lows .entry)) (now (highs .entry)))) ⌝ }
+    ensures { λ _. ⌜ tableOf (now (lows .exit)) (now (highs .exit)) ≡ tableAfter (settle (runningIn groups (length (now (lows .entry))) (now (flat .entry))) (tableOf (now (lows .entry)) (now (highs .entry)))) (tableOf (now (lows .entry)) (now (highs .entry))) ⌝ }
 {
     save(lows, highs, scratch);
     let answer = settle_in_place(flat, groups, lows, highs);

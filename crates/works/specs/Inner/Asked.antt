@@ -1,44 +1,65 @@
 -- What the functions of settling ask of their lists. Assumes nothing.
-use Prim.Native.Nat.{ℕ, _≤_}
+use Prim.Native.Nat.{ℕ, _+_, _≤_}
 use mathlib.Core.List.{List, List·Memᴰ}
 use mathlib.Core.Path.{_≡_}
-use lib.ListN.{length}
+use lib.ListN.{length, take}
 use Rattle.model.specs.Shares.{mostUnits}
 use Rattle.model.specs.Groups.{Group}
-use Rattle.model.specs.declared.Question.{Question}
+use Rattle.model.specs.Running.{running}
 use Rattle.works.specs.Consistency.{SoundOpening}
-use Rattle.groups.specs.Inner.Flat.{groupsIn, Holds}
-use Rattle.works.specs.Tables.{Table, Valid, units}
-use Rattle.groups.specs.Memberships.{SoundGroup}
+use Rattle.groups.specs.Inner.Flat.{marksFrom, marksIn, groupsIn, Holds}
+use Rattle.groups.specs.declared.Stored.{Stored}
+use Rattle.works.specs.Resting.{runningGroups}
+use Rattle.works.specs.Tables.{Table, Valid, Named, units, gather}
+use Rattle.groups.specs.Memberships.{SoundMembers}
 
--- a group of this question and these members
-abbrev pub groupWith : Question → List ℕ → Group
-groupWith question members = record { total = question .total; limits = question .limits; members = members }
+-- those of some members that run, by the marks of the units
+abbrev pub runningMembers : List ℕ → List ℕ → List ℕ
+runningMembers marks members = running (gather marks members) members
+
+-- the running groups of a flat list, so many over so many units
+abbrev pub runningIn : ℕ → ℕ → List ℕ → List Group
+runningIn count unitCount flat = runningGroups (marksIn unitCount flat) (groupsIn count flat)
 
 -- a group's turn: the table has ranges of at most 256 units, the group is sound
 pub record Turning (table : Table) (group : Group) : Type 0 where
   pub valid : Valid table
   pub few : units table ≤ mostUnits
-  pub sound : SoundGroup (units table) group
+  pub sound : SoundMembers (units table) group
 
--- working lists for the ranges of a group's n members
-pub record MemberLists (n : ℕ) (lows highs : List ℕ) : Type 0 where
-  pub forLows : length lows ≡ n
-  pub forHighs : length highs ≡ n
+-- each of at most 256 members has a mark and a range
+pub record Listed (members marks lows highs : List ℕ) : Type 0 where
+  pub few : length members ≤ mostUnits
+  pub forMarks : Named (length marks) members
+  pub forLows : Named (length lows) members
+  pub forHighs : Named (length highs) members
 
 -- working lists with room for every group
 pub record MemberRoom (lows highs : List ℕ) : Type 0 where
   pub forLows : mostUnits ≤ length lows
   pub forHighs : mostUnits ≤ length highs
 
--- a settling: the flat list holds the groups whole, and they are sound over a table of at most 256 units
+-- the ranges of the running members, so many, are the first of two working lists
+pub record RunningGathered (members marks lows highs memberLows memberHighs : List ℕ) (count : ℕ) : Type 0 where
+  pub few : count ≤ length members
+  pub lowsAre : take count memberLows ≡ gather lows (runningMembers marks members)
+  pub highsAre : take count memberHighs ≡ gather highs (runningMembers marks members)
+
+-- a flat list holds a group's members and the marks of so many units
+pub record HoldsMembers (flat : List ℕ) (group : Stored) (unitCount : ℕ) : Type 0 where
+  pub whole : group .from + group .count ≤ length flat
+  pub marked : marksFrom + unitCount ≤ length flat
+
+-- a settling: the flat list holds the groups whole and the marks of the units, and the groups are sound over a table of at most 256 units
 pub record Opening (flat : List ℕ) (count : ℕ) (table : Table) : Type 0 where
   pub holds : Holds count flat
+  pub marked : marksFrom + units table ≤ length flat
   pub few : units table ≤ mostUnits
   pub sound : SoundOpening (groupsIn count flat) table
 
--- groups read for a job of so many units: the flat list holds them whole, and each is sound
+-- groups read for a job of so many units: the flat list holds them whole and the marks of the units, and each is sound
 pub record Prepared (flat : List ℕ) (count unitCount : ℕ) : Type 0 where
   pub holds : Holds count flat
+  pub marked : marksFrom + unitCount ≤ length flat
   pub few : unitCount ≤ mostUnits
-  pub each : (group : Group) → List·Memᴰ group (groupsIn count flat) → SoundGroup unitCount group
+  pub each : (group : Group) → List·Memᴰ group (groupsIn count flat) → SoundMembers unitCount group

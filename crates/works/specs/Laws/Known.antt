@@ -6,15 +6,17 @@ use mathlib.Core.Logic.{_≢_, ⊎-elim}
 use mathlib.Core.Path.{_≡_, refl}
 use native.Mathlib.Omega.{arith}
 use lib.ListN.{getD}
+use Rattle.model.specs.Running.{running, Marked}
 use Rattle.model.specs.Shares.{Ranges, sum, sumOf}
 use Rattle.model.specs.Figures.{deviation, spread}
 use Rattle.model.specs.Known.{known, isKnown, four, ten, three, sameList}
 use Rattle.model.specs.Levels.{clamped, totalAt, levelBelow, level, topped, remainder, levelled}
 use Rattle.model.specs.Plans.{hasPlan, turnOf, firstUp, firstDown, narrowedLow, narrowedHigh, tabulate, narrowedLows, narrowedHighs}
-use Rattle.works.specs.Consistency.{SoundOpening, Consistent, Suits}
+use Rattle.works.specs.Consistency.{Suits}
+use Rattle.works.specs.Resting.{ShutOpening, AtRest}
 use Rattle.works.specs.Settling.{Outcome, narrowed, revise, passFrom, settleFrom, settle}
 use Rattle.works.specs.Tables.{widths, gather, scatter}
-use Rattle.works.specs.Laws.Settled.{settled-consistent}
+use Rattle.works.specs.Laws.Resting.{settled-rest}
 use Rattle.works.specs.Known.{holdsJob, allJobs, pair, pairs, pairTable, example, exampleTable, knownJobs}
 use Rattle.groups.specs.Memberships.{SoundGroup}
 
@@ -50,11 +52,12 @@ pair-sound units a b p q apart = record { some = omega arith; below = below; dif
 none-or-one : {lows highs : List ℕ} → Ranges lows highs → Ranges (0 ∷ lows) (1 ∷ highs)
 none-or-one ranges = Ranges.also {l = 0} {h = 1} (omega arith) (omega arith) ranges
 
--- the three pairs and their table are sound
-pub pairs-sound : SoundOpening pairs pairTable
+-- the three pairs and their table are sound, with no unit shut
+pub pairs-sound : ShutOpening (0 ∷ 0 ∷ 0 ∷ []) pairs pairTable
 unfolding pairs pairTable
 pairs-sound = record {
   valid = none-or-one (none-or-one (none-or-one Ranges.none));
+  shut = Marked.run (Marked.run (Marked.run Marked.none));
   each = λ group member.
       ⊎-elim (λ e. rw e (pair-sound 3 0 1 (omega arith) (omega arith) (omega arith)))
       (λ later. ⊎-elim (λ e. rw e (pair-sound 3 0 2 (omega arith) (omega arith) (omega arith)))
@@ -64,8 +67,9 @@ pairs-sound = record {
 }
 
 -- 01: the three pairs are "at rest at the outset"
-pub pairs-consistent : Consistent pairs pairTable
-pairs-consistent = settled-consistent pairs-sound pairs-settle
+pub pairs-consistent : AtRest (0 ∷ 0 ∷ 0 ∷ []) pairs pairTable
+unfolding pairs gather running
+pairs-consistent = settled-rest pairs-sound pairs-settle
 
 -- 01: "yet no shares suit all three"
 pub pairs-unsuited : (xs : List ℕ) → Suits pairs pairTable xs → ⊥

@@ -9,7 +9,7 @@ use Rattle.job.specs.Laws.Orders.{reordered-accepted}
 use Rattle.job.specs.SameJob.{SameButOrder}
 use Rattle.job.specs.Laws.SameJob.{same-members}
 use Rattle.model.specs.Groups.{Group}
-use Rattle.works.specs.Called.{Cleared, groups, count, called, WithoutPlan}
+use Rattle.works.specs.Called.{Cleared, groups, marks, count, called, WithoutPlan}
 use Rattle.works.specs.Laws.Repeated.{called-same-groups}
 use Rattle.works.specs.Reordering.{reordered-cleared}
 
@@ -23,6 +23,10 @@ module _ {text other lows highs : List ℕ} {scratch : ℕ} (cleared : Cleared t
   pub same-units : count cleared ≡ count (reordered-cleared cleared reordered)
   same-units = ap length (same-job .same-lows)
 
+  -- the same of them shut
+  pub same-shut : marks cleared ≡ marks (reordered-cleared cleared reordered)
+  same-shut = same-job .same-marks
+
   -- and the same groups
   pub same-groups : (group : Group) → List·Memᴰ group (groups cleared) ↔ List·Memᴰ group (groups (reordered-cleared cleared reordered))
   same-groups = same-members same-job
@@ -31,4 +35,4 @@ module _ {text other lows highs : List ℕ} {scratch : ℕ} (cleared : Cleared t
   pub called-any-order : (called cleared .lows ≡ called (reordered-cleared cleared reordered) .lows)
       × (called cleared .highs ≡ called (reordered-cleared cleared reordered) .highs)
       × (WithoutPlan cleared ↔ WithoutPlan (reordered-cleared cleared reordered))
-  called-any-order = called-same-groups cleared (reordered-cleared cleared reordered) same-units same-groups
+  called-any-order = called-same-groups cleared (reordered-cleared cleared reordered) same-units same-shut same-groups

@@ -22,7 +22,7 @@ sound-inside {next} {table} sound valid inside =
 pub first-group : {group : Group} {groups : List Group} → List·Memᴰ group (group ∷ groups)
 first-group = List·Memᴰ·head refl
 
-sound-rest : {group : Group} {groups : List Group} {table : Table} → SoundOpening (group ∷ groups) table → SoundOpening groups table
+pub sound-rest : {group : Group} {groups : List Group} {table : Table} → SoundOpening (group ∷ groups) table → SoundOpening groups table
 sound-rest sound = record { valid = sound .valid; each = λ g member. sound .each g (List·Memᴰ·tail member) }
 
 -- after a turn the other groups are sound

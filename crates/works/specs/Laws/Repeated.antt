@@ -9,12 +9,14 @@ use lib.ListN.{take-append-drop}
 use Rattle.job.specs.Laws.Sound.{accepted-sound}
 use Rattle.model.specs.Groups.{Group}
 use Rattle.works.specs.Calls.{Settlement, settlement, settleText}
+use Rattle.works.specs.Resting.{runningGroups}
 use Rattle.works.specs.Settling.{settledTable, settle}
 use Rattle.works.specs.Tables.{Table}
 use Rattle.works.specs.declared.Settling.the-variants.{Settled}
-use Rattle.works.specs.Called.{Cleared, groups, count, opening, called, after, WithoutPlan}
-use Rattle.works.specs.Laws.Called.{CallEnds, opening-sound, called-is, ends, called-settled, called-consistent, called-lengths, says, settled-not}
-use Rattle.works.specs.Laws.Checked.{passed-room, ranges-pass}
+use Rattle.works.specs.Called.{Cleared, groups, marks, count, opening, called, after, WithoutPlan}
+use Rattle.works.specs.Laws.Called.{CallEnds, roomed, opening-sound, called-is, ends, called-settled, called-consistent, called-shut, called-lengths, says, settled-not}
+use Rattle.works.specs.Laws.Checked.{ranges-pass}
+use Rattle.works.specs.Laws.Resting.{running-same}
 use Rattle.works.specs.Laws.Settled.{settled-again, any-order}
 
 -- over the settled table
@@ -25,16 +27,17 @@ module _ {text lows highs : List ℕ} {scratch : ℕ} (cleared : Cleared text lo
   settled-cleared = record {
     found = cleared .found;
     reads = cleared .reads;
-    passes = ranges-pass (count cleared) (called cleared .lows) (called cleared .highs) scratch
+    passes = ranges-pass (marks cleared) (count cleared) (called cleared .lows) (called cleared .highs) scratch
         (accepted-sound text (cleared .found) (cleared .reads) .some-unit)
         (accepted-sound text (cleared .found) (cleared .reads) .built .few-units)
-        (let room = passed-room (count cleared) lows highs scratch (cleared .passes) in
+        (let room = roomed cleared in
         record {
           forLows = omega (arith, called-lengths cleared, room .forLows);
           forHighs = omega (arith, called-lengths cleared, room .forHighs);
           forScratch = room .forScratch;
         })
-        (called-consistent cleared answers .valid);
+        (called-consistent cleared answers .valid)
+        (called-shut cleared answers);
   }
 
   -- settling a settled table takes one pass and changes nothing
@@ -47,12 +50,16 @@ module _ {text lows highs : List ℕ} {scratch : ℕ} (cleared : Cleared text lo
         take-append-drop (count cleared) (called cleared .highs),
       )
 
--- two jobs with as many units and with the same groups, over one table
+-- two jobs with as many units, the same of them shut, and with the same groups, over one table
 module _ {text other lows highs : List ℕ} {scratch room : ℕ} (first : Cleared text lows highs scratch) (second : Cleared other lows highs room)
-    (same-units : count first ≡ count second)
+    (same-units : count first ≡ count second) (same-marks : marks first ≡ marks second)
     (same-groups : (group : Group) → List·Memᴰ group (groups first) ↔ List·Memᴰ group (groups second)) where
-  same-table : settledTable (settle (groups first) (opening first)) ≡ settledTable (settle (groups second) (opening second))
-  same-table = any-order (opening-sound first) same-groups ∙ rw same-units
+  same-table : settledTable (settle (runningGroups (marks first) (groups first)) (opening first))
+      ≡ settledTable (settle (runningGroups (marks second) (groups second)) (opening second))
+  same-table =
+      any-order (opening-sound first) (running-same (marks first) same-groups)
+      ∙ ap (λ (ms : List ℕ). settledTable (settle (runningGroups ms (groups second)) (opening first))) same-marks
+      ∙ rw same-units
 
   -- both give the same settled table, or both are refused for want of a plan
   pub called-same-groups : (called first .lows ≡ called second .lows) × (called first .highs ≡ called second .highs) × (WithoutPlan first ↔ WithoutPlan second)

@@ -6,37 +6,45 @@ use mathlib.Core.Logic.{_≢_}
 use mathlib.Core.Path.{_≡_, refl, sym, ap, _∙_}
 use native.Mathlib.Numerals.{add-one}
 use native.Mathlib.Omega.{arith, by-contra}
-use lib.ListN.{drop}
+use lib.ListN.{length, drop}
 use Rattle.model.specs.Shares.{greatestTotal, mostUnits}
 use Rattle.model.specs.Laws.Tests.{refuted}
 use Rattle.group.specs.Sound as one
 use Rattle.group.specs.Laws.Sound as laws
-use Rattle.groups.specs.Inner.Flat.{groupsIn, storedAt, groupIn}
+use Rattle.groups.specs.Inner.Flat.{groupsIn, marksFrom, marksIn, storedAt, groupIn}
 use Rattle.groups.specs.Laws.Walk.{Walk, Next, walk-start, walk-end, walk-next}
+use Rattle.groups.specs.Memberships.{SoundMembers}
 use Rattle.groups.specs.declared.Stored.{Stored}
 use Rattle.model.specs.Groups.{Group}
 use Rattle.model.specs.Known.{refusedBy}
 use Rattle.model.specs.declared.Turn.{Turn}
 use Rattle.model.specs.declared.Turn.the-variants.{Narrowed, NoPlan}
 use Rattle.works.specs.Consistency.{SoundOpening}
-use Rattle.works.specs.Inner.Asked.{Turning, Opening}
+use Rattle.works.specs.Inner.Asked.{Turning, HoldsMembers, Opening, runningIn}
+use Rattle.works.specs.Resting.{runningGroup, runningGroups}
 use Rattle.works.specs.Settling.{Revised, AfterPass, Outcome, revisedBy, revise, passFrom, pass, settleFrom, settle}
 use Rattle.works.specs.Tables.{Table, sameTable, units, width}
 use Rattle.works.specs.Laws.Inside.{same-table, table-same, widths-sums, widths-same}
 use Rattle.works.specs.Endings.{After}
-use Rattle.works.specs.Laws.Passes.{first-group, sound-inside, sound-turn, pass-after}
-use Rattle.works.specs.Laws.Turns.{turn-inside}
+use Rattle.works.specs.Laws.Passes.{first-group, sound-inside, sound-rest, pass-after}
+use Rattle.works.specs.Laws.Turns.{turn-inside, turn-valid}
+use Rattle.works.specs.Laws.Shut.{running-members, running-opening}
 
 module _ (flat : List ℕ) (count : ℕ) where
-  abbrev groups : List Group
-  groups = groupsIn count flat
+  -- the groups, and those of them that run over so many units
+  abbrev whole : List Group
+  whole = groupsIn count flat
+
+  abbrev groups : Table → List Group
+  groups table = runningIn count (units table) flat
 
   -- the turns before place are taken, the group after them starts at an index: what is left of the pass makes it whole
   pub record PassUnderWay (start table : Table) (at place : ℕ) : Type 0 where
     pub walk : Walk flat count at place
-    pub sound : SoundOpening (drop place groups) table
+    pub sound : SoundOpening (drop place whole) table
     pub sameUnits : units table ≡ units start
-    pub rest : passFrom (suc place) (drop place groups) table ≡ pass groups start
+    pub marked : marksFrom + units start ≤ length flat
+    pub rest : passFrom (suc place) (runningGroups (marksIn (units start) flat) (drop place whole)) table ≡ pass (groups start) start
 
   -- the table's ranges are those of one group
   pub opening-sound : {table : Table} → Opening flat count table → one.SoundRanges (table .lows) (table .highs)
@@ -48,10 +56,10 @@ module _ (flat : List ℕ) (count : ℕ) where
 
   -- a pass starts
   pub passing-start : {table : Table} → Opening flat count table → PassUnderWay table table 0 0
-  passing-start opening = record { walk = walk-start flat count (opening .holds); sound = opening .sound; sameUnits = refl; rest = refl }
+  passing-start opening = record { walk = walk-start flat count (opening .holds); sound = opening .sound; sameUnits = refl; marked = opening .marked; rest = refl }
 
   -- once all turns are taken, the pass leaves the table
-  pub passing-end : {start table : Table} {at place : ℕ} → PassUnderWay start table at place → count ≤ place → pass groups start ≡ AfterPass.passed table
+  pub passing-end : {start table : Table} {at place : ℕ} → PassUnderWay start table at place → count ≤ place → pass (groups start) start ≡ AfterPass.passed table
   unfolding passFrom
   passing-end passing end = sym (passing .rest) ∙ rw (walk-end flat count (passing .walk) end)
 
@@ -66,40 +74,59 @@ module _ (flat : List ℕ) (count : ℕ) where
     abbrev group : Group
     group = groupIn flat stored
 
+    -- the marks of the units
+    abbrev marks : List ℕ
+    marks = marksIn (units start) flat
+
     pub next : Next flat count place stored
     next = walk-next flat count (passing .walk) some read
 
     -- it and the groups after it are sound
-    sound-next : SoundOpening (group ∷ drop (place + 1) groups) table
+    sound-next : SoundOpening (group ∷ drop (place + 1) whole) table
     sound-next = rw (next .first) at (passing .sound)
 
     -- what is left of the pass with it
-    rest-next : passFrom (suc place) (group ∷ drop (place + 1) groups) table ≡ pass groups start
+    rest-next : passFrom (suc place) (runningGroup marks group ∷ runningGroups marks (drop (place + 1) whole)) table ≡ pass (groups start) start
     rest-next = rw (next .first) at (passing .rest)
 
     -- what the turn asks
     pub next-turning : units start ≤ mostUnits → Turning table group
     next-turning few = record { valid = sound-next .valid; few = omega (arith, passing .sameUnits); sound = sound-next .each _ first-group }
 
+    pub next-holds : HoldsMembers flat stored (units table)
+    next-holds = record { whole = next .within; marked = omega (arith, passing .marked, passing .sameUnits) }
+
     -- the turn's answer
-    module _ (turn : Turn) (after : Table) (answer : revisedBy turn after ≡ revise table group) where
+    module _ (turn : Turn) (after : Table) (answered : revisedBy turn after ≡ revise table (runningGroup (marksIn (units table) flat) group)) where
+      -- it is that of the running members
+      answer : revisedBy turn after ≡ revise table (runningGroup marks group)
+      answer = answered ∙ ap (λ (n : ℕ). revise table (runningGroup (marksIn n flat) group)) (passing .sameUnits)
+
       -- where the group has no plan, the pass stops
-      pub next-stops : {number refusal : ℕ} → turn ≡ NoPlan refusal → number ≡ refusedBy turn → pass groups start ≡ AfterPass.stopped number (place + 1)
+      pub next-stops : {number refusal : ℕ} → turn ≡ NoPlan refusal → number ≡ refusedBy turn → pass (groups start) start ≡ AfterPass.stopped number (place + 1)
       unfolding passFrom
       next-stops refuses is-number =
-          let stops : revise table group ≡ Revised.noPlan (refusedBy turn) = rw (← answer, refuses) in
+          let stops : revise table (runningGroup marks group) ≡ Revised.noPlan (refusedBy turn) = rw (← answer, refuses) in
           sym rest-next ∙ rw (stops, passFrom, ← is-number, add-one place)
+
+      -- its running members are units of the table
+      running-first : SoundMembers (units table) (runningGroup marks group)
+      running-first = running-members marks group (sound-next .each _ first-group)
 
       -- else it goes on with the table that the turn leaves
       pub next-passes : turn ≡ Narrowed → PassUnderWay start after (stored .next) (place + 1)
       unfolding passFrom
       next-passes narrows =
-          let goes-on : revise table group ≡ Revised.revised after = rw (← answer, narrows) in
+          let goes-on : revise table (runningGroup marks group) ≡ Revised.revised after = rw (← answer, narrows) in
           record {
             walk = next .onward;
-            sound = sound-turn sound-next goes-on;
-            sameUnits = turn-inside table group (sound-next .valid) (sound-next .each _ first-group) goes-on .sameLows ∙ passing .sameUnits;
-            rest = ap (λ (p : ℕ). passFrom (suc p) (drop (place + 1) groups) after) (add-one place) ∙ rw (goes-on, passFrom) at rest-next;
+            sound =
+                sound-inside (sound-rest sound-next)
+                (turn-valid table (runningGroup marks group) (sound-next .valid) running-first goes-on)
+                (turn-inside table (runningGroup marks group) (sound-next .valid) running-first goes-on);
+            sameUnits = turn-inside table (runningGroup marks group) (sound-next .valid) running-first goes-on .sameLows ∙ passing .sameUnits;
+            marked = passing .marked;
+            rest = ap (λ (p : ℕ). passFrom (suc p) (runningGroups marks (drop (place + 1) whole)) after) (add-one place) ∙ rw (goes-on, passFrom) at rest-next;
           }
 
   -- after so many passes, what is left of the settling makes it whole
@@ -109,7 +136,7 @@ module _ (flat : List ℕ) (count : ℕ) where
     pub bound : passes + width table ≤ width opening
     pub more : ℕ
     pub enough : width table < more
-    pub rest : settleFrom more passes groups table ≡ settle groups opening
+    pub rest : settleFrom more passes (groups opening) table ≡ settle (groups opening) opening
 
   -- a settling starts
   pub unsettled-start : {table : Table} → Opening flat count table → Unsettled table table 0
@@ -128,27 +155,36 @@ module _ (flat : List ℕ) (count : ℕ) where
     record Once : Type 0 where
       pub more : ℕ
       pub enough : width table < suc more
-      pub rest : settleFrom (suc more) passes groups table ≡ settle groups opening
+      pub rest : settleFrom (suc more) passes (groups opening) table ≡ settle (groups opening) opening
 
     once : Once
     once = some (unsettled .more) (unsettled .enough) (unsettled .rest)
       where
-        some : (more : ℕ) → width table < more → settleFrom more passes groups table ≡ settle groups opening → Once
+        some : (more : ℕ) → width table < more → settleFrom more passes (groups opening) table ≡ settle (groups opening) opening → Once
         some zero enough rest = absurd (omega arith)
         some (suc more) enough rest = record { more = more; enough = enough; rest = rest }
 
-    -- a pass that is stopped ends the settling
-    pub pass-refused : {number place : ℕ} → pass groups table ≡ AfterPass.stopped number place
-        → settle groups opening ≡ Outcome.refused number place (passes + 1)
-    unfolding settleFrom
-    pass-refused stops = sym (once .rest) ∙ rw (stops, settleFrom, add-one passes)
+    -- the groups that run are those of the opening table
+    same-groups : groups opening ≡ groups table
+    same-groups = ap (λ (n : ℕ). runningIn count n flat) (sym (unsettled .sameUnits))
 
-    module _ {next : Table} (passes-on : pass groups table ≡ AfterPass.passed next) where
-      after : After groups next table
-      after = pass-after 1 groups table next (unsettled .ready .sound) passes-on
+    -- a pass that is stopped ends the settling
+    pub pass-refused : {number place : ℕ} → pass (groups table) table ≡ AfterPass.stopped number place
+        → settle (groups opening) opening ≡ Outcome.refused number place (passes + 1)
+    unfolding settleFrom
+    pass-refused stops =
+        let stopped : pass (groups opening) table ≡ AfterPass.stopped _ _ = ap (λ (gs : List Group). pass gs table) same-groups ∙ stops in
+        sym (once .rest) ∙ rw (stopped, settleFrom, add-one passes)
+
+    module _ {next : Table} (passed : pass (groups table) table ≡ AfterPass.passed next) where
+      passes-on : pass (groups opening) table ≡ AfterPass.passed next
+      passes-on = ap (λ (gs : List Group). pass gs table) same-groups ∙ passed
+
+      after : After (groups table) next table
+      after = pass-after 1 (groups table) table next (running-opening (marksIn (units table) flat) (unsettled .ready .sound)) passed
 
       -- a pass that leaves the sum of widths changes nothing: the table is settled
-      pub pass-settled : width next ≡ width table → settle groups opening ≡ Outcome.settled next (passes + 1)
+      pub pass-settled : width next ≡ width table → settle (groups opening) opening ≡ Outcome.settled next (passes + 1)
       unfolding settleFrom
       pass-settled quiet =
           let same : next ≡ table = widths-same (after .valid) (unsettled .ready .sound .valid) (after .inside) (omega arith) in
@@ -166,7 +202,7 @@ module _ (flat : List ℕ) (count : ℕ) where
       pass-goes-on moved =
           let differs : sameTable next table ≡ false = refuted (sameTable next table) (λ same. moved (ap (λ (t : Table). width t) (same-table same))) in
           record {
-            ready = record { holds = unsettled .ready .holds; few = omega (arith, unsettled .ready .few, after .inside .sameLows); sound = sound-inside (unsettled .ready .sound) (after .valid) (after .inside) };
+            ready = record { holds = unsettled .ready .holds; marked = omega (arith, unsettled .ready .marked, after .inside .sameLows); few = omega (arith, unsettled .ready .few, after .inside .sameLows); sound = sound-inside (unsettled .ready .sound) (after .valid) (after .inside) };
             sameUnits = after .inside .sameLows ∙ unsettled .sameUnits;
             bound = omega (arith, pass-falls moved, unsettled .bound);
             more = once .more;

@@ -5,7 +5,7 @@ use mathlib.Core.Path.{_≡_}
 use native.Mathlib.Decide.{decLe}
 use native.Mathlib.Omega.{arith}
 use Rattle.model.specs.Groups.{Group}
-use Rattle.groups.specs.Memberships.{SoundGroup, size, unitOf}
+use Rattle.groups.specs.Memberships.{SoundMembers, size, unitOf}
 
 -- the numbers but a, one after another
 abbrev without : ℕ → ℕ → ℕ
@@ -38,5 +38,5 @@ few (suc n) (suc m) f below different =
     )
 
 -- a sound group has at most as many members as there are units
-pub size-few : {count : ℕ} {group : Group} → SoundGroup count group → size group ≤ count
+pub size-few : {count : ℕ} {group : Group} → SoundMembers count group → size group ≤ count
 size-few {count} {group} sound = few (size group) count (unitOf group) (sound .below) (sound .different)

@@ -12,7 +12,7 @@ use Rattle.model.specs.Narrowing as keeping
 use Rattle.model.specs.Laws.Keeping.{plan-widen}
 use Rattle.model.specs.Laws.Lists.{ranges-length, ranges-at, ranges-of}
 use Rattle.model.specs.Laws.Narrowing as narrowing
-use Rattle.model.specs.Laws.Plans.{plan-found}
+use Rattle.model.specs.Laws.Plans.{plan-found, found-plan}
 use Rattle.model.specs.Laws.Turns.{found-turn, turn-found}
 use Rattle.model.specs.Plans.{hasPlan, turnOf, narrowedLow, narrowedHigh}
 use Rattle.model.specs.Shares.{Ranges}
@@ -22,9 +22,9 @@ use Rattle.works.specs.Consistency.{Supported, PlanIn}
 use Rattle.works.specs.Settling.{Revised, revisedBy, narrowed, revise}
 use Rattle.works.specs.Tables.{Table, Valid, units, lowOf, highOf, Inside, Place, scatter, lowsOf, highsOf}
 use Rattle.works.specs.Laws.Members.{gather-length, gather-at, scatter-length, scatter-other, scatter-at, place}
-use Rattle.groups.specs.Memberships.{SoundGroup, size, unitOf}
+use Rattle.groups.specs.Memberships.{SoundMembers, size, unitOf}
 
-module _ (table : Table) (group : Group) (valid : Valid table) (sound : SoundGroup (units table) group) where
+module _ (table : Table) (group : Group) (valid : Valid table) (sound : SoundMembers (units table) group) where
   -- whether the group has a plan, and what narrowing keeps of member k
   abbrev Found : Type 0
   Found = hasPlan (lowsOf table group) (highsOf table group) (group .total) (group .limits) ≡ true
@@ -122,37 +122,36 @@ module _ (table : Table) (group : Group) (valid : Valid table) (sound : SoundGro
 
   -- a table inside this one that the group supports
   module _ {inner : Table} (ranged : Valid inner) (supported : Supported inner group) (inside : Inside inner table) where
+    -- the members' ranges there lie inside those here
+    gathered-inside : keeping.RangesInside (lowsOf inner group) (highsOf inner group) (lowsOf table group) (highsOf table group)
+    gathered-inside =
+        record {
+          sameLows = omega (arith, gather-length (inner .lows) (group .members), gather-length (table .lows) (group .members));
+          sameHighs = omega (arith, gather-length (inner .highs) (group .members), gather-length (table .highs) (group .members));
+          at = λ k h.
+              let below : k < size group = omega (arith, gather-length (table .lows) (group .members)) in
+              rw (
+                gather-at (inner .lows) (group .members) k below,
+                gather-at (inner .highs) (group .members) k below,
+                gather-at (table .lows) (group .members) k below,
+                gather-at (table .highs) (group .members) k below,
+              )
+              (inside .above _, inside .below _);
+        }
+
     -- each value of a member's range there is taken by a plan here
     wider : (k : ℕ) → k < size group → (v : ℕ) → lowOf inner (unitOf group k) ≤ v → v ≤ highOf inner (unitOf group k)
         → (xs : List ℕ) × PlanIn table group xs × (getD xs k 0 ≡ v)
     wider k h v low high =
         let (xs, plan, value) = supported .taken k h v low high in
         (xs, plan-widen gathered-inside plan, value)
-      where
-        gathered-inside : keeping.RangesInside (lowsOf inner group) (highsOf inner group) (lowsOf table group) (highsOf table group)
-        gathered-inside =
-            record {
-              sameLows = omega (arith, gather-length (inner .lows) (group .members), gather-length (table .lows) (group .members));
-              sameHighs = omega (arith, gather-length (inner .highs) (group .members), gather-length (table .highs) (group .members));
-              at = λ k h.
-                  let below : k < size group = omega (arith, gather-length (table .lows) (group .members)) in
-                  rw (
-                    gather-at (inner .lows) (group .members) k below,
-                    gather-at (inner .highs) (group .members) k below,
-                    gather-at (table .lows) (group .members) k below,
-                    gather-at (table .highs) (group .members) k below,
-                  )
-                  (inside .above _, inside .below _);
-            }
 
     ordered : (k : ℕ) → k < size group → lowOf inner (unitOf group k) ≤ highOf inner (unitOf group k)
     ordered k h = ranges-at ranged (unitOf group k) (omega (arith, sound .below k h, inside .sameLows)) .0
 
     -- the group has a plan
     supported-found : Found
-    supported-found =
-        let (xs, plan, value) = wider 0 (sound .some) _ (le-refl _) (ordered 0 (sound .some)) in
-        plan-found gathered plan
+    supported-found = let (xs, plan) = supported .planned in plan-found gathered (plan-widen gathered-inside plan)
 
     -- the values of each member's range there are kept
     kept-around : (k : ℕ) → k < size group → (keptLow k ≤ lowOf inner (unitOf group k)) × (highOf inner (unitOf group k) ≤ keptHigh k)
@@ -214,6 +213,7 @@ module _ (table : Table) (group : Group) (valid : Valid table) (sound : SoundGro
   turn-quiet answer =
       let (found, same) = revised-found answer in
       record {
+        planned = (_, found-plan gathered (group .total) (group .limits) found);
         taken = λ k h v low high.
             narrowing.kept-taken gathered (group .total) (group .limits) found k (counted h) v
             (omega (arith, low-at k h, ap (λ (t : Table). lowOf t (unitOf group k)) same))

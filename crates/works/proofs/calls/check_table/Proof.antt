@@ -20,7 +20,7 @@ returns c = rw (← c .before .has-room .ensures, not-true (c .before .has-room 
 -- where there is room
 module _ (c : tie.Else1) where
   abbrev start : tie.Start
-  start = c .before .before .before .before
+  start = c .before .before .before .before .before
 
   has : hasRoom (start .args .units) (length (start .args .lows .now)) (length (start .args .highs .now)) (start .args .scratch) ≡ true
   has = rw (← c .before .has-room .ensures) (not-false (c .before .has-room .result) (c .if1 .left))

@@ -1,6 +1,7 @@
 -- A text that is read is settled as its groups are; one that is refused leaves the table. Assumes nothing.
 use borrow.Author.Needs.{needs}
 use mathlib.Core.Path.{_∙_}
+use native.Mathlib.Omega.{arith}
 use lib.ListN.{length}
 use Rattle.works.specs.Laws.Accepted.{read-prepared, read-settles, refused-settles}
 use Rattle.works.proofs.calls.settle.Statement.{statement}
@@ -29,7 +30,8 @@ module _ (c : tie.After-scan-groups) where
 settle-job-requires : tie.Need-settle-job-requires
 settle-job-requires c κs =
     let told = c .before .before .before .before .before in
-    read-prepared (told .before .before .before .scan-groups .ensures) (told .reading .given .1)
+    let scanned = told .before .before .before in
+    read-prepared (scanned .scan-groups .ensures) (omega (arith, scanned .scan-groups .kept .1 .0, scanned .before .before .flat-room .ensures)) (told .reading .given .1)
 
 enum-known-reading-2 : tie.Need-enum-known-reading-2
 enum-known-reading-2 c = search needs

@@ -8,13 +8,13 @@ use native.Mathlib.Omega.{arith}
 use Prim.Native.Nat.{ℕ, _-_}
 use lib.ListN.{length}
 use Rattle.works.specs.Laws.Answers.{settled-answer, refused-answer}
-use Rattle.groups.specs.Inner.Flat.{groupsIn, storedAt}
+use Rattle.groups.specs.Inner.Flat.{storedAt}
 use Rattle.groups.specs.Laws.Walk.{walk-whole}
 use Rattle.groups.specs.declared.Stored.{Stored}
-use Rattle.works.specs.Inner.Asked.{MemberRoom}
+use Rattle.works.specs.Inner.Asked.{MemberRoom, runningIn}
 use Rattle.works.specs.Settling as settling
-use Rattle.works.specs.Tables.{Table, tableOf, width}
-use Rattle.works.specs.Laws.Running.{PassUnderWay, Unsettled, opening-sound, width-small, passing-sound, passing-start, passing-end, next, next-turning, next-stops, next-passes, unsettled-start, pass-refused, pass-settled, pass-falls, pass-goes-on}
+use Rattle.works.specs.Tables.{Table, tableOf, units, width}
+use Rattle.works.specs.Laws.Running.{PassUnderWay, Unsettled, opening-sound, width-small, passing-sound, passing-start, passing-end, next-holds, next-turning, next-stops, next-passes, unsettled-start, pass-refused, pass-settled, pass-falls, pass-goes-on}
 use Rattle.works.proofs.passes.run_passes.Statement.{statement}
 use Rattle.works.proofs.passes.run_passes.Tie as tie
 
@@ -96,7 +96,7 @@ module _ (c : tie.After-loop Inv-loop μ-loop Inv-passes μ-passes) where
   abbrev left : Table
   left = tableOf (c .before .loop .lows) (c .before .loop .highs)
 
-  passed : settling.pass (groupsIn (groups over) (flat over)) (table over) ≡ settling.AfterPass.passed left
+  passed : settling.pass (runningIn (groups over) (units (table over)) (flat over)) (table over) ≡ settling.AfterPass.passed left
   passed = passing-end _ _ (c .before .loop .inv .0) (c .loop-test .left)
 
 passes-holds : tie.Need-passes-holds Inv-loop μ-loop Inv-passes μ-passes
@@ -135,7 +135,7 @@ take-turn-requires c κs =
     let g = c .before .before .before .before in
     let some = turn g .loop-test .taken in (
       next-turning _ _ (passing g) some (read g) (unsettled (pass (turn g)) .ready .few),
-      (next _ _ (passing g) some (read g) .within, space (turn g)),
+      (next-holds _ _ (passing g) some (read g), space (turn g)),
     )
 
 add-place : tie.Need-add-place Inv-loop μ-loop Inv-passes μ-passes

@@ -10,9 +10,9 @@ use denote.Enum.Declared.{tagOf}
 use Rattle.works.proofs.Settling.{the-type}
 use Rattle.works.specs.Answers.{answerOf, tableAfter}
 use Rattle.works.specs.Laws.Answers.{settled-any}
-use Rattle.groups.specs.Inner.Flat.{groupsIn}
+use Rattle.works.specs.Inner.Asked.{runningIn}
 use Rattle.works.specs.Settling.{Outcome, settle}
-use Rattle.works.specs.Tables.{Table, tableOf}
+use Rattle.works.specs.Tables.{Table, tableOf, units}
 use Rattle.works.specs.Laws.Inside.{same-ranges}
 use Rattle.works.specs.Laws.Parts.{first-restored, second-restored}
 use Rattle.works.specs.declared.Settling.{Settling}
@@ -59,7 +59,7 @@ module _ (c : tie.After-settle-in-place) where
   opening = tableOf (start .args .lows .now) (start .args .highs .now)
 
   abbrev outcome : Outcome
-  outcome = settle (groupsIn (start .args .groups) (start .args .flat .now)) opening
+  outcome = settle (runningIn (start .args .groups) (units opening) (start .args .flat .now)) opening
 
   -- the passes keep the lengths of the table's lists
   low-count : length (c .settle-in-place .last .1 .1 .0) ≡ length (start .args .lows .now)
