@@ -27,16 +27,16 @@ reported answer lows highs buffer = record { answer = answer; lows = lows; highs
 
 -- what is reported of a settling's answer: the report of the first units' ranges, and past it what the buffer held;
 -- on a refusal the buffer holds what it held
-abbrev pub reportBy : List Group → ℕ → Settling → List ℕ → List ℕ → List ℕ → Reported
-reportBy groups units (settling.Settled passes) lows highs buffer =
-    let report : List ℕ = reportOf groups (tableOf (take units lows) (take units highs)) passes in
+abbrev pub reportBy : List ℕ → List Group → ℕ → Settling → List ℕ → List ℕ → List ℕ → Reported
+reportBy marks groups units (settling.Settled passes) lows highs buffer =
+    let report : List ℕ = reportOf marks groups (tableOf (take units lows) (take units highs)) passes in
     reported (Written (length report) passes) lows highs (report ++ drop (length report) buffer)
-reportBy groups units (settling.NoPlan number place passes) lows highs buffer = reported (NoPlan number place passes) lows highs buffer
-reportBy groups units (settling.Refused refusal) lows highs buffer = reported (Refused refusal) lows highs buffer
+reportBy marks groups units (settling.NoPlan number place passes) lows highs buffer = reported (NoPlan number place passes) lows highs buffer
+reportBy marks groups units (settling.Refused refusal) lows highs buffer = reported (Refused refusal) lows highs buffer
 
 -- what is reported of a settling
-unfoldable pub reportSettled : List Group → ℕ → Settlement → List ℕ → Reported
-reportSettled groups units settled buffer = reportBy groups units (settled .answer) (settled .lows) (settled .highs) buffer
+unfoldable pub reportSettled : List ℕ → List Group → ℕ → Settlement → List ℕ → Reported
+reportSettled marks groups units settled buffer = reportBy marks groups units (settled .answer) (settled .lows) (settled .highs) buffer
 
 -- the job that a text holds
 abbrev pub jobOf : JobOrRefusal → Job
@@ -48,5 +48,5 @@ unfoldable pub reportText : List ℕ → List ℕ → List ℕ → ℕ → List 
 reportText text lows highs scratch buffer =
     let found : Job = jobOf (readJob text) in
     pick (leb mostBytes (length buffer))
-    (reportSettled (found .groups) (length (found .lows)) (settleText text lows highs scratch) buffer)
+    (reportSettled (found .marks) (found .groups) (length (found .lows)) (settleText text lows highs scratch) buffer)
     (reported (Refused (refusal 1 0)) lows highs buffer)

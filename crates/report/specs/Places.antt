@@ -9,8 +9,8 @@ use Rattle.report.specs.Lines.{settledLine}
 use Rattle.report.specs.Reports.{unitLines, groupLines}
 
 -- the lines of a report: that of the passes, the unit lines, the group lines
-abbrev pub reportLines : List Group → Table → ℕ → List (List ℕ)
-reportLines groups table passes = settledLine passes ∷ (unitLines 1 (table .lows) (table .highs) ++ groupLines 1 table groups)
+abbrev pub reportLines : List ℕ → List Group → Table → ℕ → List (List ℕ)
+reportLines marks groups table passes = settledLine passes ∷ (unitLines 1 (table .lows) (table .highs) ++ groupLines marks 1 table groups)
 
 -- a group's line with this number and these bytes past it
 abbrev pub numbered : ℕ → List ℕ → List ℕ

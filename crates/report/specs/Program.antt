@@ -2,6 +2,7 @@
 use Prim.Native.Nat.{ℕ}
 use mathlib.Core.List.{List}
 use Rattle.job.specs.Job.{JobOrRefusal, accepted, refused, readJob}
+use Rattle.works.specs.Resting.{runningGroups}
 use Rattle.works.specs.Settling.{settle}
 use Rattle.works.specs.Tables.{tableOf}
 use Rattle.report.specs.Lines.{refusalLine}
@@ -9,7 +10,7 @@ use Rattle.report.specs.Reports.{printed}
 
 -- what is printed of a reading: of a job, what settling its groups from the ranges of its unit lines gives; of a refusal, its line
 unfoldable pub printedRead : JobOrRefusal → List ℕ
-printedRead (accepted found) = printed (found .groups) (settle (found .groups) (tableOf (found .lows) (found .highs)))
+printedRead (accepted found) = printed (found .marks) (found .groups) (settle (runningGroups (found .marks) (found .groups)) (tableOf (found .lows) (found .highs)))
 printedRead (refused refusal) = refusalLine (refusal .number) (refusal .place)
 
 -- 01: the program "reads a job from standard input and writes the report"; "A refusal prints one line"

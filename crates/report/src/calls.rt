@@ -14,11 +14,11 @@ ghost use Prim.Native.Nat.{_≤_};
 ghost use mathlib.Core.List.{_++_};
 ghost use mathlib.Core.Path.{_≡_};
 ghost use lib.ListN.{length, drop};
-ghost use Rattle.groups.specs.Inner.Flat.{mostFlat, Holds, groupsIn};
+ghost use Rattle.groups.specs.Inner.Flat.{mostFlat, groupsIn, marksIn};
 ghost use Rattle.job.specs.Job.{mostBytes};
 ghost use Rattle.report.specs.Calls.{reported, reportBy, reportSettled, reportText};
 ghost use Rattle.report.specs.Reportable.{Reportable};
-ghost use Rattle.report.specs.Inner.Asked.{Answerable, WithinLimits};
+ghost use Rattle.report.specs.Inner.Asked.{Answerable, HoldsJob, WithinLimits};
 ghost use Rattle.report.specs.Reports.{reportOf};
 ghost use Rattle.works.specs.Calls.{settleJob};
 ghost use Rattle.works.specs.Inner.Asked.{Prepared};
@@ -39,11 +39,11 @@ fn put_report(
     lows: &[u64],
     highs: &[u64],
 ) -> usize
-    requires { ⌜ Reportable (groupsIn groups (now flat)) (tableOf (now lows) (now highs)) passes ⌝ }
-    requires { ⌜ Holds groups (now flat) ⌝ }
+    requires { ⌜ Reportable (marksIn (length (now lows)) (now flat)) (groupsIn groups (now flat)) (tableOf (now lows) (now highs)) passes ⌝ }
+    requires { ⌜ HoldsJob (now flat) groups (length (now lows)) ⌝ }
     requires { ⌜ mostBytes ≤ length (now buffer) ⌝ }
-    ensures { λ r. ⌜ r ≡ length (reportOf (groupsIn groups (now (flat .entry))) (tableOf (now (lows .entry)) (now (highs .entry))) passes) ⌝ }
-    ensures { λ r. ⌜ now (buffer .exit) ≡ reportOf (groupsIn groups (now (flat .entry))) (tableOf (now (lows .entry)) (now (highs .entry))) passes ++ drop r (now (buffer .entry)) ⌝ }
+    ensures { λ r. ⌜ r ≡ length (reportOf (marksIn (length (now (lows .entry))) (now (flat .entry))) (groupsIn groups (now (flat .entry))) (tableOf (now (lows .entry)) (now (highs .entry))) passes) ⌝ }
+    ensures { λ r. ⌜ now (buffer .exit) ≡ reportOf (marksIn (length (now (lows .entry))) (now (flat .entry))) (groupsIn groups (now (flat .entry))) (tableOf (now (lows .entry)) (now (highs .entry))) passes ++ drop r (now (buffer .entry)) ⌝ }
 {
     let mut next = put_settled_line(buffer, 0, passes);
     next = put_unit_lines(buffer, next, lows, highs);
@@ -59,10 +59,10 @@ fn put_answer(
     lows: &[u64],
     highs: &[u64],
 ) -> Reporting
-    requires { ⌜ Answerable (groupsIn (counts .groups) (now flat)) (counts .units) answer (now lows) (now highs) ⌝ }
-    requires { ⌜ Holds (counts .groups) (now flat) ⌝ }
+    requires { ⌜ Answerable (marksIn (counts .units) (now flat)) (groupsIn (counts .groups) (now flat)) (counts .units) answer (now lows) (now highs) ⌝ }
+    requires { ⌜ HoldsJob (now flat) (counts .groups) (counts .units) ⌝ }
     requires { ⌜ mostBytes ≤ length (now buffer) ⌝ }
-    ensures { λ r. ⌜ reported r (now (lows .entry)) (now (highs .entry)) (now (buffer .exit)) ≡ reportBy (groupsIn (counts .groups) (now (flat .entry))) (counts .units) answer (now (lows .entry)) (now (highs .entry)) (now (buffer .entry)) ⌝ }
+    ensures { λ r. ⌜ reported r (now (lows .entry)) (now (highs .entry)) (now (buffer .exit)) ≡ reportBy (marksIn (counts .units) (now (flat .entry))) (groupsIn (counts .groups) (now (flat .entry))) (counts .units) answer (now (lows .entry)) (now (highs .entry)) (now (buffer .entry)) ⌝ }
 {
     match answer {
         Settling::Settled(passes) => {
@@ -100,9 +100,9 @@ fn report_job(
     buffer: &mut [u8],
 ) -> Reporting
     requires { ⌜ Prepared (now flat) (counts .groups) (counts .units) ⌝ }
-    requires { ⌜ WithinLimits (now flat) (counts .groups) ⌝ }
+    requires { ⌜ WithinLimits (now flat) (counts .groups) (counts .units) ⌝ }
     requires { ⌜ mostBytes ≤ length (now buffer) ⌝ }
-    ensures { λ r. ⌜ reported r (now (lows .exit)) (now (highs .exit)) (now (buffer .exit)) ≡ reportSettled (groupsIn (counts .groups) (now (flat .entry))) (counts .units) (settleJob (groupsIn (counts .groups) (now (flat .entry))) (counts .units) (now (lows .entry)) (now (highs .entry)) (length (now (scratch .entry)))) (now (buffer .entry)) ⌝ }
+    ensures { λ r. ⌜ reported r (now (lows .exit)) (now (highs .exit)) (now (buffer .exit)) ≡ reportSettled (marksIn (counts .units) (now (flat .entry))) (groupsIn (counts .groups) (now (flat .entry))) (counts .units) (settleJob (marksIn (counts .units) (now (flat .entry))) (groupsIn (counts .groups) (now (flat .entry))) (counts .units) (now (lows .entry)) (now (highs .entry)) (length (now (scratch .entry)))) (now (buffer .entry)) ⌝ }
 {
     let answer = settle_job(flat, counts.groups, counts.units, lows, highs, scratch);
     put_answer(buffer, answer, flat, counts, lows, highs)

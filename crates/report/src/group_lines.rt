@@ -2,22 +2,23 @@
 use crate::lines::put_levelled_line;
 use group::Levelling;
 use group::level_core;
+use groups::MARKS;
 use groups::Stored;
 use groups::group_at;
 use model::lists::room;
 use works::members::gather;
-ghost use Prim.Native.Nat.{_+_, _≤_};
+ghost use Prim.Native.Nat.{_≤_};
 ghost use mathlib.Core.List.{flatten};
 ghost use mathlib.Core.Path.{_≡_};
 ghost use lib.ListN.{length, take};
 ghost use Rattle.group.specs.Levelling.{levelledTo, planAfter};
-ghost use Rattle.group.specs.Sound.{SoundRanges};
-ghost use Rattle.groups.specs.Inner.Flat.{groupIn, groupsIn};
+ghost use Rattle.groups.specs.Inner.Flat.{groupIn, groupsIn, marksIn};
 ghost use Rattle.model.specs.Levels.{levelled};
 ghost use Rattle.print.specs.Inner.Written.{Room, Wrote};
 ghost use Rattle.report.specs.Reportable.{Levelable};
-ghost use Rattle.report.specs.Inner.Asked.{LevelledIn, Printable};
+ghost use Rattle.report.specs.Inner.Asked.{LevelledIn, LevelMembers, Printable};
 ghost use Rattle.report.specs.Reports.{groupLines};
+ghost use Rattle.works.specs.Inner.Asked.{HoldsMembers};
 ghost use Rattle.works.specs.Tables.{Named, gather, tableOf};
 ghost use Rattle.model.specs.Shares.{mostUnits};
 
@@ -34,23 +35,31 @@ fn gather_front(entries: &[u64], members: &[u64], out: &mut [u64])
 // Levels members within their ranges in the table: their shares go to the plan, over its first numbers.
 fn level_members(
     members: &[u64],
+    marks: &[u64],
     total: u64,
     lows: &[u64],
     highs: &[u64],
     plan: &mut [u64],
 ) -> Levelling
-    requires { ⌜ Named (length (now lows)) (now members) × Named (length (now highs)) (now members) ⌝ }
-    requires { ⌜ SoundRanges (gather (now lows) (now members)) (gather (now highs) (now members)) ⌝ }
+    requires { ⌜ LevelMembers (now members) (now marks) (now lows) (now highs) ⌝ }
     requires { ⌜ mostUnits ≤ length (now plan) ⌝ }
-    ensures { λ r. ⌜ r ≡ levelledTo (gather (now (lows .entry)) (now (members .entry))) (gather (now (highs .entry)) (now (members .entry))) total ⌝ }
+    ensures { λ r. ⌜ r ≡ levelledTo (gather (now (lows .entry)) (now (members .entry))) (gather (now (highs .entry)) (now (members .entry))) (gather (now (marks .entry)) (now (members .entry))) total ⌝ }
     ensures { λ r. ⌜ now (plan .exit) ≡ planAfter r (levelled (gather (now (lows .entry)) (now (members .entry))) (gather (now (highs .entry)) (now (members .entry))) total) (now (plan .entry)) ⌝ }
 {
     let count = members.len();
     let mut member_lows = room();
     let mut member_highs = room();
+    let mut member_marks = room();
     gather_front(lows, members, &mut member_lows);
     gather_front(highs, members, &mut member_highs);
-    level_core(&member_lows[..count], &member_highs[..count], total, plan)
+    gather_front(marks, members, &mut member_marks);
+    level_core(
+        &member_lows[..count],
+        &member_highs[..count],
+        &member_marks[..count],
+        total,
+        plan,
+    )
 }
 
 // Levels a group of a flat list within the table: the shares of its members go to the plan, over its first numbers.
@@ -61,16 +70,25 @@ fn level_stored(
     highs: &[u64],
     plan: &mut [u64],
 ) -> Levelling
-    requires { ⌜ Levelable (tableOf (now lows) (now highs)) (groupIn (now flat) group) ⌝ }
+    requires { ⌜ Levelable (marksIn (length (now lows)) (now flat)) (tableOf (now lows) (now highs)) (groupIn (now flat) group) ⌝ }
     requires { ⌜ length (now highs) ≡ length (now lows) ⌝ }
-    requires { ⌜ group .from + group .count ≤ length (now flat) ⌝ }
+    requires { ⌜ HoldsMembers (now flat) group (length (now lows)) ⌝ }
     requires { ⌜ mostUnits ≤ length (now plan) ⌝ }
-    ensures { λ r. ⌜ LevelledIn (tableOf (now (lows .entry)) (now (highs .entry))) (groupIn (now (flat .entry)) group) r (now (plan .exit)) ⌝ }
+    ensures { λ r. ⌜ LevelledIn (marksIn (length (now (lows .entry))) (now (flat .entry))) (tableOf (now (lows .entry)) (now (highs .entry))) (groupIn (now (flat .entry)) group) r (now (plan .exit)) ⌝ }
 {
     let total = group.total;
     let from = group.from;
     let end = from + group.count;
-    level_members(&flat[from..end], total, lows, highs, plan)
+    let marks = MARKS;
+    let behind = marks + lows.len();
+    level_members(
+        &flat[from..end],
+        &flat[marks..behind],
+        total,
+        lows,
+        highs,
+        plan,
+    )
 }
 
 // Writes the lines of a flat list's groups, and hands back the index after them.
@@ -83,8 +101,8 @@ pub fn put_group_lines(
     highs: &[u64],
 ) -> usize
     requires { ⌜ Printable (now flat) groups (tableOf (now lows) (now highs)) ⌝ }
-    requires { ⌜ Room (now buffer) at (flatten (groupLines 1 (tableOf (now lows) (now highs)) (groupsIn groups (now flat)))) ⌝ }
-    ensures { λ r. ⌜ Wrote (flatten (groupLines 1 (tableOf (now (lows .entry)) (now (highs .entry))) (groupsIn groups (now (flat .entry))))) (now (buffer .entry)) at (now (buffer .exit)) r ⌝ }
+    requires { ⌜ Room (now buffer) at (flatten (groupLines (marksIn (length (now lows)) (now flat)) 1 (tableOf (now lows) (now highs)) (groupsIn groups (now flat)))) ⌝ }
+    ensures { λ r. ⌜ Wrote (flatten (groupLines (marksIn (length (now (lows .entry))) (now (flat .entry))) 1 (tableOf (now (lows .entry)) (now (highs .entry))) (groupsIn groups (now (flat .entry))))) (now (buffer .entry)) at (now (buffer .exit)) r ⌝ }
 {
     let mut plan = room();
     let mut next = at;

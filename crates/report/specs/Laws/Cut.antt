@@ -56,18 +56,18 @@ cut-units number (l ∷ lows) (h ∷ highs) rest =
     ∙ ap (λ (ls : List (List ℕ)). unitLine number l h ∷ ls) (cut-units (suc number) lows highs rest))
 
 -- the group lines
-cut-groups : (number : ℕ) (table : Table) (groups : List Group) → linesOf (flatten (groupLines number table groups)) ≡ groupLines number table groups
+cut-groups : (marks : List ℕ) (number : ℕ) (table : Table) (groups : List Group) → linesOf (flatten (groupLines marks number table groups)) ≡ groupLines marks number table groups
 unfolding groupLines levelledLine flatten linesOf
-cut-groups number table [] = refl
-cut-groups number table (group ∷ groups) =
-    lines-next (group-one number _ _ _) _ ∙ ap (λ (ls : List (List ℕ)). lineOf number table group ∷ ls) (cut-groups (suc number) table groups)
+cut-groups marks number table [] = refl
+cut-groups marks number table (group ∷ groups) =
+    lines-next (group-one number _ _ _) _ ∙ ap (λ (ls : List (List ℕ)). lineOf marks number table group ∷ ls) (cut-groups marks (suc number) table groups)
 
 -- the lines of a report
-pub report-cut : (groups : List Group) (table : Table) (passes : ℕ) → linesOf (reportOf groups table passes) ≡ reportLines groups table passes
+pub report-cut : (marks : List ℕ) (groups : List Group) (table : Table) (passes : ℕ) → linesOf (reportOf marks groups table passes) ≡ reportLines marks groups table passes
 unfolding reportOf flatten contains
-report-cut groups table passes =
-    rw (append-nil (flatten (groupLines 1 table groups)))
+report-cut marks groups table passes =
+    rw (append-nil (flatten (groupLines marks 1 table groups)))
     (lines-next (line-one (bytes "(settled") (passes ∷ []) refl) _
     ∙ ap (λ (ls : List (List ℕ)). settledLine passes ∷ ls)
-    (cut-units 1 (table .lows) (table .highs) (flatten (groupLines 1 table groups))
-    ∙ ap (λ (ls : List (List ℕ)). unitLines 1 (table .lows) (table .highs) ++ ls) (cut-groups 1 table groups)))
+    (cut-units 1 (table .lows) (table .highs) (flatten (groupLines marks 1 table groups))
+    ∙ ap (λ (ls : List (List ℕ)). unitLines 1 (table .lows) (table .highs) ++ ls) (cut-groups marks 1 table groups)))

@@ -1,5 +1,5 @@
 -- 01's report of its example job, and what the program prints of that job's text, computed. Assumes nothing.
-use mathlib.Core.List.{[], flatten}
+use mathlib.Core.List.{[], _∷_, flatten}
 use mathlib.Core.Path.{_≡_, refl, ap, _∙_}
 use Rattle.model.specs.Shares.{sum, sumOf}
 use Rattle.model.specs.Figures.{deviation, spread}
@@ -9,6 +9,8 @@ use Rattle.text.specs.Numbers.{digitsOf, printNumber}
 use Rattle.print.specs.Items.{item, items, form, printedLine}
 use Rattle.model.specs.Known.{sameList}
 use Rattle.model.specs.Plans.{hasPlan, turnOf, firstUp, firstDown, narrowedLow, narrowedHigh, tabulate, narrowedLows, narrowedHighs}
+use Rattle.model.specs.Running.{running}
+use Rattle.works.specs.Resting.{runningGroups}
 use Rattle.works.specs.Tables.{widths, gather, scatter}
 use Rattle.works.specs.Settling.{narrowed, revise, passFrom, settleFrom, settle}
 use Rattle.works.specs.Known.{example, exampleTable}
@@ -20,8 +22,8 @@ use Rattle.report.specs.Program.{printedRead, printedOf}
 use Rattle.report.specs.Reports.{unitLines, levelledLine, groupLines, reportOf, printed}
 use Rattle.report.specs.Known.{exampleReport, exampleText}
 
-pub example-report : printed example (settle example exampleTable) ≡ exampleReport
-unfolding printed reportOf groupLines levelledLine unitLines groupLine printedLine form items item flatten printNumber digitsOf exampleReport example exampleTable settle settleFrom passFrom revise narrowed widths gather scatter sameList sum sumOf deviation spread clamped totalAt levelBelow level topped remainder levelled hasPlan turnOf firstUp firstDown narrowedLow narrowedHigh tabulate narrowedLows narrowedHighs
+pub example-report : printed (0 ∷ 0 ∷ 0 ∷ []) example (settle (runningGroups (0 ∷ 0 ∷ 0 ∷ []) example) exampleTable) ≡ exampleReport
+unfolding running printed reportOf groupLines levelledLine unitLines groupLine printedLine form items item flatten printNumber digitsOf exampleReport example exampleTable settle settleFrom passFrom revise narrowed widths gather scatter sameList sum sumOf deviation spread clamped totalAt levelBelow level topped remainder levelled hasPlan turnOf firstUp firstDown narrowedLow narrowedHigh tabulate narrowedLows narrowedHighs
 example-report = refl
 
 -- 01: "A refusal prints one line"

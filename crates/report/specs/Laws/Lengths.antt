@@ -1,24 +1,28 @@
 -- How long the lines of a report are, and that it fits its buffer. Assumes nothing.
 use Prim.Native.Nat.{ℕ, suc, _+_, _*_, _^_, _≤_, _<_}
 use mathlib.Core.List.{List, [], _∷_, _++_, flatten, List·Memᴰ·head, List·Memᴰ·tail}
-use mathlib.Core.Path.{refl}
+use mathlib.Core.Path.{_≡_, refl}
 use native.Mathlib.Nat.{mul-le-mul}
 use native.Mathlib.Omega.{arith}
 use lib.ListN.{length, getD, length-append}
-use Rattle.model.specs.Figures.{spread, figuresOf}
+use Rattle.model.specs.Figures.{deviation, spread}
+use Rattle.model.specs.Running.{running, Marked, markedFigures}
+use Rattle.model.specs.Laws.Running.{running-within}
+use Rattle.model.specs.Laws.Marked.{running-counted}
 use Rattle.model.specs.Groups.{Group}
 use Rattle.model.specs.Laws.Level.{level-share}
 use Rattle.model.specs.Laws.Levelled.{levelled-within}
 use Rattle.model.specs.Levels.{level, levelled}
-use Rattle.model.specs.Shares.{Ranges, Within}
+use Rattle.model.specs.Shares.{Ranges, Within, greatestTotal, mostUnits}
 use Rattle.model.specs.declared.Figures.{Figures}
 use Rattle.text.specs.Words.{bytes}
 use Rattle.group.specs.Laws.Bounds.{share-small, squares-small, deviation-small}
 use Rattle.group.specs.Sound.{SoundRanges, HasShares}
-use Rattle.group.specs.Laws.Sound.{levelled-length, highs-small}
+use Rattle.group.specs.Laws.Sound.{running-sound, levelled-length, highs-small}
 use Rattle.groups.specs.Memberships.{memberships}
 use Rattle.job.specs.Job.{mostBytes}
 use Rattle.works.specs.Laws.Members.{gather-length}
+use Rattle.works.specs.Resting.{marksOf}
 use Rattle.works.specs.Tables.{Table, lowsOf, highsOf}
 use Rattle.print.specs.Items.{form}
 use Rattle.print.specs.Laws.Lengths.{item-length, items-more, items-none, items-length, form-length, line-length}
@@ -101,48 +105,54 @@ group-length number level figures shares p q small-deviation small-spread small 
     )
 
 -- a group's line as the report has it
-levelled-line-length : {lows highs : List ℕ} {total : ℕ} → HasShares lows highs total → (number : ℕ) → number < 10 ^ 2
-    → length (levelledLine number lows highs total) ≤ 56 + 8 * length lows
+levelled-line-length : {lows highs marks : List ℕ} {total : ℕ} → Marked marks lows highs → HasShares lows highs total → (number : ℕ) → number < 10 ^ 2
+    → length (levelledLine number lows highs marks total) ≤ 56 + 8 * length lows
 unfolding levelledLine spread
-levelled-line-length {lows} {highs} {total} shares number p =
+levelled-line-length {lows} {highs} {marks} {total} marked shares number p =
     let xs : List ℕ = levelled lows highs total in
     let sound : SoundRanges lows highs = shares .sound in
     let within : Within lows highs xs = levelled-within (sound .ranges) total in
+    let ran : SoundRanges (running marks lows) (running marks highs) = running-sound marks sound in
+    let ran-within : Within (running marks lows) (running marks highs) (running marks xs) = running-within marks within in
+    let counted : length (running marks xs) ≡ length (running marks lows) = running-counted marks within in
+    let few : length (running marks xs) ≤ mostUnits = omega (arith, ran .few) in
+    let small : deviation (length (running marks xs)) total (running marks xs) ≤ mostUnits * greatestTotal =
+    rw counted (deviation-small ran ran-within total (omega (arith, shares .high, highs-small sound))) in
     omega (
       arith,
       levelled-length sound total,
       group-length number (level lows highs total)
-          (figuresOf (length lows) total xs)
+          (markedFigures marks total xs)
           xs
           p
           (omega (arith, level-share lows highs total))
-          (omega (arith, deviation-small sound within total (omega (arith, shares .high, highs-small sound))))
-          (omega (arith, mul-le-mul (sound .few) (squares-small sound within)))
+          (omega (arith, small))
+          (omega (arith, mul-le-mul few (squares-small ran ran-within)))
           (λ i h. omega (arith, share-small sound within i h)),
     )
 
 -- the group lines of fewer than 100 groups
-group-lengths : (table : Table) (groups : List Group) → AllLevelable table groups → (number : ℕ) → number + length groups < 10 ^ 2
-    → length (flatten (groupLines number table groups)) ≤ 56 * length groups + 8 * memberships groups
+group-lengths : (marks : List ℕ) (table : Table) (groups : List Group) → AllLevelable marks table groups → (number : ℕ) → number + length groups < 10 ^ 2
+    → length (flatten (groupLines marks number table groups)) ≤ 56 * length groups + 8 * memberships groups
 unfolding groupLines flatten memberships
-group-lengths table [] each number few = omega arith
-group-lengths table (group ∷ groups) each number few =
-    let first : List ℕ = levelledLine number (lowsOf table group) (highsOf table group) (group .total) in
+group-lengths marks table [] each number few = omega arith
+group-lengths marks table (group ∷ groups) each number few =
+    let first : List ℕ = levelledLine number (lowsOf table group) (highsOf table group) (marksOf marks group) (group .total) in
     omega (
       arith,
-      length-append first (flatten (groupLines (suc number) table groups)),
+      length-append first (flatten (groupLines marks (suc number) table groups)),
       gather-length (table .lows) (group .members),
-      levelled-line-length (each group (List·Memᴰ·head refl) .shares) number (omega arith),
-      group-lengths table groups (λ other member. each other (List·Memᴰ·tail member)) (suc number) (omega arith),
+      levelled-line-length (each group (List·Memᴰ·head refl) .marked) (each group (List·Memᴰ·head refl) .shares) number (omega arith),
+      group-lengths marks table groups (λ other member. each other (List·Memᴰ·tail member)) (suc number) (omega arith),
     )
 
 -- every report fits its buffer
-pub report-fits : {groups : List Group} {table : Table} {passes : ℕ} → Reportable groups table passes
-    → length (reportOf groups table passes) ≤ mostBytes
+pub report-fits : {marks : List ℕ} {groups : List Group} {table : Table} {passes : ℕ} → Reportable marks groups table passes
+    → length (reportOf marks groups table passes) ≤ mostBytes
 unfolding reportOf flatten
-report-fits {groups} {table} {passes} ready =
+report-fits {marks} {groups} {table} {passes} ready =
     let units : List ℕ = flatten (unitLines 1 (table .lows) (table .highs)) in
-    let lines : List ℕ = flatten (groupLines 1 table groups) in
+    let lines : List ℕ = flatten (groupLines marks 1 table groups) in
     omega (
       arith,
       length-append (settledLine passes) (units ++ (lines ++ [])),
@@ -150,7 +160,7 @@ report-fits {groups} {table} {passes} ready =
       length-append lines [],
       settled-length passes (omega (arith, ready .few-passes)),
       unit-lengths (ready .valid) 1 (omega (arith, ready .few-units)),
-      group-lengths table groups (ready .levelable) 1 (omega (arith, ready .few-groups)),
+      group-lengths marks table groups (ready .levelable) 1 (omega (arith, ready .few-groups)),
       ready .few-units,
       ready .few-groups,
       ready .few-memberships,

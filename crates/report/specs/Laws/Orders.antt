@@ -12,12 +12,12 @@ use Rattle.job.specs.Orders.{Reordered}
 use Rattle.job.specs.TextLines.{linesOf}
 use Rattle.model.specs.Groups.{Group}
 use Rattle.model.specs.Laws.Lists.{ranges-length}
-use Rattle.works.specs.Called.{Cleared, groups, count, opening, called, after}
+use Rattle.works.specs.Called.{Cleared, groups, marks, count, opening, called, after}
 use Rattle.works.specs.Laws.Called.{CallEnds, says, ends, settled-not, called-bound, called-refusal}
 use Rattle.works.specs.Called as settling
 use Rattle.works.specs.Laws.Checked.{passed-room}
 use Rattle.works.specs.Reordering.{reordered-cleared}
-use Rattle.works.specs.Laws.Orders.{same-units, same-groups}
+use Rattle.works.specs.Laws.Orders.{same-units, same-shut, same-groups}
 use Rattle.works.specs.Calls.{WantOfPlan}
 use Rattle.works.specs.Laws.Repeated.{called-same-groups}
 use Rattle.works.specs.Tables.{Table, width}
@@ -44,7 +44,7 @@ module _ {text lows highs : List ℕ} {scratch : ℕ} (cleared : Cleared text lo
   by-end : CallEnds cleared → Reports
   by-end (CallEnds.settled passes is said) =
       let settles : called cleared .answer ≡ works.Settled passes = says said in
-      Reports.written (length (reportOf (groups cleared) (after cleared) passes)) passes
+      Reports.written (length (reportOf (marks cleared) (groups cleared) (after cleared) passes)) passes
       (ap (λ (r : Reported). r .answer) (reports cleared buffer long) ∙ rw settles)
   by-end (CallEnds.refused number place passes is said) = Reports.refused number place passes (says said) (reports cleared buffer long ∙ rw said)
 
@@ -74,24 +74,24 @@ module _ {text lows highs : List ℕ} {scratch : ℕ} (cleared : Cleared text lo
 
   module _ {size passes : ℕ} (answers : outcome cleared buffer long .answer ≡ Written size passes) where
     -- the answer is the length of the report of the table that the call leaves
-    written-size : length (reportOf (groups cleared) (left cleared buffer long) passes) ≡ size
+    written-size : length (reportOf (marks cleared) (groups cleared) (left cleared buffer long) passes) ≡ size
     written-size =
         let settles = written-settled cleared buffer long answers in
         let (lows-are, highs-are) = same-table cleared buffer long in
-        let same : Written size passes ≡ Written (length (reportOf (groups cleared) (after cleared) passes)) passes =
+        let same : Written size passes ≡ Written (length (reportOf (marks cleared) (groups cleared) (after cleared) passes)) passes =
         sym answers ∙ ap (λ (r : Reported). r .answer) (reports cleared buffer long) ∙ rw settles in
-        let counted : length (reportOf (groups cleared) (after cleared) passes) ≡ size = cc in
+        let counted : length (reportOf (marks cleared) (groups cleared) (after cleared) passes) ≡ size = cc in
         rw (lows-are, highs-are) counted
 
     -- so these bytes are that report
-    pub written-bytes : report cleared buffer long answers ≡ reportOf (groups cleared) (left cleared buffer long) passes
+    pub written-bytes : report cleared buffer long answers ≡ reportOf (marks cleared) (groups cleared) (left cleared buffer long) passes
     written-bytes =
         ap (take size) (written-report cleared buffer long answers)
-        ∙ take-at (reportOf (groups cleared) (left cleared buffer long) passes) _ size written-size
+        ∙ take-at (reportOf (marks cleared) (groups cleared) (left cleared buffer long) passes) _ size written-size
 
     -- its lines, cut after each byte 10
-    pub written-lines : linesOf (report cleared buffer long answers) ≡ reportLines (groups cleared) (left cleared buffer long) passes
-    written-lines = ap linesOf written-bytes ∙ report-cut (groups cleared) (left cleared buffer long) passes
+    pub written-lines : linesOf (report cleared buffer long answers) ≡ reportLines (marks cleared) (groups cleared) (left cleared buffer long) passes
+    written-lines = ap linesOf written-bytes ∙ report-cut (marks cleared) (groups cleared) (left cleared buffer long) passes
 
     -- the first has the passes
     pub written-first : getElem? (linesOf (report cleared buffer long answers)) 0 ≡ some (settledLine passes)
@@ -99,32 +99,32 @@ module _ {text lows highs : List ℕ} {scratch : ℕ} (cleared : Cleared text lo
 
     -- that of the group at index k, its number k + 1, stands behind the line of the passes, the unit lines and k group lines
     pub written-line : {group : Group} (k : ℕ) → getElem? (groups cleared) k ≡ some group
-        → getElem? (linesOf (report cleared buffer long answers)) (suc (count cleared + k)) ≡ some (lineOf (suc k) (left cleared buffer long) group)
+        → getElem? (linesOf (report cleared buffer long answers)) (suc (count cleared + k)) ≡ some (lineOf (marks cleared) (suc k) (left cleared buffer long) group)
     written-line k stands =
         let promised = written-promised cleared buffer long answers in
-        let fits = passed-room (count cleared) lows highs scratch (cleared .passes) in
+        let fits = passed-room (marks cleared) (count cleared) lows highs scratch (cleared .passes) in
         let counted = promised .inside .sameLows ∙ length-take-le (count cleared) lows (fits .forLows) in
         ap (λ (ls : List (List ℕ)). getElem? ls (suc (count cleared + k))) written-lines
-        ∙ ap (λ (n : ℕ). getElem? (reportLines (groups cleared) (left cleared buffer long) passes) (suc (n + k))) (sym counted)
-        ∙ group-line (groups cleared) (left cleared buffer long) passes k (sym (ranges-length (promised .consistent .valid))) stands
+        ∙ ap (λ (n : ℕ). getElem? (reportLines (marks cleared) (groups cleared) (left cleared buffer long) passes) (suc (n + k))) (sym counted)
+        ∙ group-line (marks cleared) (groups cleared) (left cleared buffer long) passes k (sym (ranges-length (promised .at-rest .valid))) stands
 
 -- two calls over one table
 module _ {text other lows highs : List ℕ} {scratch room : ℕ} (first : Cleared text lows highs scratch) (second : Cleared other lows highs room)
     (buffer space : List ℕ) (long : mostBytes ≤ length buffer) (wide : mostBytes ≤ length space) where
-  -- on jobs with as many units and with the same groups
-  module _ (as-many : count first ≡ count second)
+  -- on jobs with as many units, the same of them shut, and with the same groups
+  module _ (as-many : count first ≡ count second) (as-shut : marks first ≡ marks second)
       (as-grouped : (group : Group) → List·Memᴰ group (groups first) ↔ List·Memᴰ group (groups second)) where
     -- both leave the same lists
     same-lows : outcome first buffer long .lows ≡ outcome second space wide .lows
     same-lows =
         same-table first buffer long .0
-        ∙ called-same-groups first second as-many as-grouped .0
+        ∙ called-same-groups first second as-many as-shut as-grouped .0
         ∙ sym (same-table second space wide .0)
 
     same-highs : outcome first buffer long .highs ≡ outcome second space wide .highs
     same-highs =
         same-table first buffer long .1
-        ∙ called-same-groups first second as-many as-grouped .1
+        ∙ called-same-groups first second as-many as-shut as-grouped .1
         ∙ sym (same-table second space wide .1)
 
     -- so one settled table
@@ -136,12 +136,14 @@ module _ {text other lows highs : List ℕ} {scratch room : ℕ} (first : Cleare
         (replies : outcome second space wide .answer ≡ Written more others)
         → SameLines (count first) (groups first) (groups second) (report first buffer long answers) (report second space wide replies)
     same-lines answers replies group j k stands too =
-        let (past, is) = line-numbered (left first buffer long) group in (
+        let (past, is) = line-numbered (marks first) (left first buffer long) group in (
           past,
           written-line first buffer long answers j stands ∙ ap some (is (suc j)),
           ap (λ (n : ℕ). getElem? (linesOf (report second space wide replies)) (suc (n + k))) as-many
               ∙ written-line second space wide replies k too
-              ∙ ap some (ap (λ (table : Table). lineOf (suc k) table group) (sym same-left) ∙ is (suc k)),
+              ∙ ap some (ap (λ (ms : List ℕ). lineOf ms (suc k) (left second space wide) group) (sym as-shut)
+              ∙ ap (λ (table : Table). lineOf (marks first) (suc k) table group) (sym same-left)
+              ∙ is (suc k)),
         )
 
     -- the reports of both are the same so
@@ -149,7 +151,7 @@ module _ {text other lows highs : List ℕ} {scratch room : ℕ} (first : Cleare
     report-same-groups = agree (by-end first buffer long (ends first)) (by-end second space wide (ends second))
       where
         both : settling.WithoutPlan first ↔ settling.WithoutPlan second
-        both = called-same-groups first second as-many as-grouped .2
+        both = called-same-groups first second as-many as-shut as-grouped .2
 
         agree : Reports first buffer long → Reports second space wide → SameReports first second buffer space long wide
         agree (Reports.written size passes answers) (Reports.written more others replies) =
@@ -169,4 +171,5 @@ pub report-any-order : {text other lows highs : List ℕ} {scratch : ℕ} (clear
 report-any-order cleared reordered buffer space long wide =
     report-same-groups cleared (reordered-cleared cleared reordered) buffer space long wide
     (same-units cleared reordered)
+    (same-shut cleared reordered)
     (same-groups cleared reordered)

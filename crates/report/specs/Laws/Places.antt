@@ -30,9 +30,9 @@ line-past level figures shares = (
 )
 
 -- so is its line in a table
-pub line-numbered : (table : Table) (group : Group) → (past : List ℕ) × ((number : ℕ) → lineOf number table group ≡ numbered number past)
+pub line-numbered : (marks : List ℕ) (table : Table) (group : Group) → (past : List ℕ) × ((number : ℕ) → lineOf marks number table group ≡ numbered number past)
 unfolding levelledLine
-line-numbered table group = line-past _ _ _
+line-numbered marks table group = line-past _ _ _
 
 -- what stands behind other lines
 behind : (xs ys : List (List ℕ)) (k : ℕ) → getElem? (xs ++ ys) (length xs + k) ≡ getElem? ys k
@@ -40,12 +40,12 @@ behind [] ys k = rw (zero-add k)
 behind (x ∷ xs) ys k = rw (suc-add (length xs) k) (behind xs ys k)
 
 -- each group has the line at its own index, the first with the given number
-line-at : (number : ℕ) (table : Table) (groups : List Group) {group : Group} (k : ℕ) → getElem? groups k ≡ some group
-    → getElem? (groupLines number table groups) k ≡ some (lineOf (number + k) table group)
+line-at : (marks : List ℕ) (number : ℕ) (table : Table) (groups : List Group) {group : Group} (k : ℕ) → getElem? groups k ≡ some group
+    → getElem? (groupLines marks number table groups) k ≡ some (lineOf marks (number + k) table group)
 unfolding groupLines
-line-at number table [] k stands = absurd (let z : _≡_ {A = ℕ} 0 1 = cc in omega arith)
-line-at number table (first ∷ groups) {group} zero stands = let same : first ≡ group = cc in rw (same, add-zero number)
-line-at number table (first ∷ groups) (suc k) stands = rw (add-suc number k, ← (suc-add number k)) (line-at (suc number) table groups k stands)
+line-at marks number table [] k stands = absurd (let z : _≡_ {A = ℕ} 0 1 = cc in omega arith)
+line-at marks number table (first ∷ groups) {group} zero stands = let same : first ≡ group = cc in rw (same, add-zero number)
+line-at marks number table (first ∷ groups) (suc k) stands = rw (add-suc number k, ← (suc-add number k)) (line-at marks (suc number) table groups k stands)
 
 -- there are as many unit lines as units
 unit-count : (number : ℕ) (lows highs : List ℕ) → length lows ≡ length highs → length (unitLines number lows highs) ≡ length lows
@@ -55,13 +55,13 @@ unit-count number (l ∷ lows) [] same = absurd (omega arith)
 unit-count number (l ∷ lows) (h ∷ highs) same = ap suc (unit-count (suc number) lows highs (suc-inj same))
 
 -- on a report the line of the group at index k, its number k + 1, stands behind the line of the passes, the unit lines and k group lines
-pub group-line : (groups : List Group) (table : Table) (passes : ℕ) {group : Group} (k : ℕ) → length (table .lows) ≡ length (table .highs)
+pub group-line : (marks : List ℕ) (groups : List Group) (table : Table) (passes : ℕ) {group : Group} (k : ℕ) → length (table .lows) ≡ length (table .highs)
     → getElem? groups k ≡ some group
-    → getElem? (reportLines groups table passes) (suc (units table + k)) ≡ some (lineOf (suc k) table group)
-group-line groups table passes {group} k paired stands =
+    → getElem? (reportLines marks groups table passes) (suc (units table + k)) ≡ some (lineOf marks (suc k) table group)
+group-line marks groups table passes {group} k paired stands =
     let lines : List (List ℕ) = unitLines 1 (table .lows) (table .highs) in
     let place : length lines + k ≡ units table + k = omega (arith, unit-count 1 (table .lows) (table .highs) paired) in
-    ap (getElem? (lines ++ groupLines 1 table groups)) (sym place)
-    ∙ behind lines (groupLines 1 table groups) k
-    ∙ line-at 1 table groups k stands
-    ∙ ap (λ (number : ℕ). some (lineOf number table group)) (omega arith)
+    ap (getElem? (lines ++ groupLines marks 1 table groups)) (sym place)
+    ∙ behind lines (groupLines marks 1 table groups) k
+    ∙ line-at marks 1 table groups k stands
+    ∙ ap (λ (number : ℕ). some (lineOf marks number table group)) (omega arith)

@@ -16,9 +16,10 @@ use Rattle.job.specs.declared.Reading.the-variants as reading
 use Rattle.model.specs.Laws.Lists.{ranges-length}
 use Rattle.model.specs.declared.Refusal.{Refusal}
 use Rattle.works.specs.Calls.{Settlement, checkTable}
-use Rattle.works.specs.Called.{Cleared, groups, count, opening, called, after}
+use Rattle.works.specs.Called.{Cleared, groups, marks, count, opening, called, after}
 use Rattle.works.specs.Laws.Called.{CallEnds, says, ends}
 use Rattle.works.specs.Laws.Checked.{Roomy, ranges-pass}
+use Rattle.works.specs.Resting.{runningGroups}
 use Rattle.works.specs.Settling.{settle}
 use Rattle.works.specs.Tables.{Table, tableOf}
 use Rattle.works.specs.declared.Settling.{Settling}
@@ -79,8 +80,9 @@ module _ {text lows₀ highs₀ lows highs : List ℕ} {answer : Reading} (fille
         forHighs = rw highs-are (omega (arith, length-append (found .highs) (drop n highs₀)));
         forScratch = omega (arith, counts);
       } in
-      let passes : checkTable n lows highs scratch ≡ Passed =
-      ranges-pass n lows highs scratch (sound .some-unit) (sound .built .few-units) room (rw (front-lows, front-highs) (sound .built .ranges)) in
+      let passes : checkTable (found .marks) n lows highs scratch ≡ Passed =
+      ranges-pass (found .marks) n lows highs scratch (sound .some-unit) (sound .built .few-units) room (rw (front-lows, front-highs) (sound .built .ranges))
+      (rw (front-lows, front-highs) (sound .built .marked)) in
       record {
         cleared = record { found = found; reads = job-is; passes = passes };
         opens = λ i. tableOf (front-lows i) (front-highs i);
@@ -101,11 +103,11 @@ module _ {text lows highs : List ℕ} {scratch : ℕ} (opened : Opened text lows
   cleared = opened .cleared
 
   -- what is printed is of the settling from the table
-  printed-opening : printedOf text ≡ printed (groups cleared) (settle (groups cleared) (opening cleared))
+  printed-opening : printedOf text ≡ printed (marks cleared) (groups cleared) (settle (runningGroups (marks cleared) (groups cleared)) (opening cleared))
   unfolding printedOf printedRead
   printed-opening =
       ap printedRead (cleared .reads)
-      ∙ ap (λ (table : Table). printed (groups cleared) (settle (groups cleared) table)) (sym (opened .opens))
+      ∙ ap (λ (table : Table). printed (marks cleared) (groups cleared) (settle (runningGroups (marks cleared) (groups cleared)) table)) (sym (opened .opens))
 
   -- what reporting answers and leaves
   abbrev outcome : Reported
@@ -125,17 +127,17 @@ module _ {text lows highs : List ℕ} {scratch : ℕ} (opened : Opened text lows
   by-end : CallEnds cleared → Prints
   unfolding printed
   by-end (CallEnds.settled passes settles said) =
-      let report-is : printedOf text ≡ reportOf (groups cleared) (after cleared) passes =
-      printed-opening ∙ ap (printed (groups cleared)) settles in
+      let report-is : printedOf text ≡ reportOf (marks cleared) (groups cleared) (after cleared) passes =
+      printed-opening ∙ ap (printed (marks cleared) (groups cleared)) settles in
       Prints.written passes (called cleared .lows) (called cleared .highs)
       (reports cleared buffer long
-      ∙ ap (λ (answer : Settling). reportBy (groups cleared) (count cleared) answer (called cleared .lows) (called cleared .highs) buffer) (says said)
+      ∙ ap (λ (answer : Settling). reportBy (marks cleared) (groups cleared) (count cleared) answer (called cleared .lows) (called cleared .highs) buffer) (says said)
       ∙ ap (writing passes (called cleared .lows) (called cleared .highs)) (sym report-is))
   by-end (CallEnds.refused number place passes settles said) =
       Prints.none number place passes
-      (printed-opening ∙ ap (printed (groups cleared)) settles)
+      (printed-opening ∙ ap (printed (marks cleared) (groups cleared)) settles)
       (reports cleared buffer long
-      ∙ ap (λ (s : Settlement). reportBy (groups cleared) (count cleared) (s .answer) (s .lows) (s .highs) buffer) said)
+      ∙ ap (λ (s : Settlement). reportBy (marks cleared) (groups cleared) (count cleared) (s .answer) (s .lows) (s .highs) buffer) said)
 
   module _ {answer : Reporting} {nextLows nextHighs exit : List ℕ} (is : reported answer nextLows nextHighs exit ≡ outcome) where
     answers : {other : Reported} → outcome ≡ other → answer ≡ other .answer

@@ -1,7 +1,7 @@
 -- Reporting a text, case by case: what the code answers is what the definition says. Assumes nothing.
 use Prim.Native.Nat.{ℕ, _≤_, _<_}
 use mathlib.Core.List.{List, _++_}
-use mathlib.Core.Path.{_≡_, sym, ap, _∙_}
+use mathlib.Core.Path.{_≡_, sym, ap, subst, _∙_}
 use native.Mathlib.Omega.{arith}
 use borrow.Author.Tests.{le-leb, lt-leb}
 use lib.ListN.{length, take, drop}
@@ -15,9 +15,10 @@ use Rattle.job.specs.declared.Reading.the-variants as job
 use Rattle.model.specs.Groups.{Group}
 use Rattle.model.specs.declared.Refusal.{Refusal}
 use Rattle.works.specs.Calls.{Settlement, settlement, settleJob}
-use Rattle.groups.specs.Inner.Flat.{groupsIn}
+use Rattle.groups.specs.Inner.Flat.{groupsIn, marksIn}
 use Rattle.groups.specs.Laws.Reading.{flatten-groups}
-use Rattle.works.specs.Laws.Accepted.{read-settles, refused-settles}
+use Rattle.groups.specs.Memberships.{SoundGroup}
+use Rattle.works.specs.Laws.Accepted.{each-sound, read-settles, refused-settles}
 use Rattle.works.specs.Tables.{tableOf}
 use Rattle.works.specs.declared.Settling.{Settling}
 use Rattle.works.specs.declared.Settling.the-variants as works
@@ -27,17 +28,17 @@ use Rattle.report.specs.Reports.{reportOf}
 use Rattle.model.specs.Refusals.{refusal}
 use Rattle.report.specs.declared.Reporting.the-variants.{Written, Refused}
 
-module _ (groups : List Group) (units : ℕ) {lows highs : List ℕ} (buffer : List ℕ) where
+module _ (marks : List ℕ) (groups : List Group) (units : ℕ) {lows highs : List ℕ} (buffer : List ℕ) where
   -- a settled table is reported
   pub answer-written : {answer : Settling} {passes count : ℕ} {exit : List ℕ} → answer ≡ works.Settled passes
-      → count ≡ length (reportOf groups (tableOf (take units lows) (take units highs)) passes)
-      → exit ≡ reportOf groups (tableOf (take units lows) (take units highs)) passes ++ drop count buffer
-      → reported (Written count passes) lows highs exit ≡ reportBy groups units answer lows highs buffer
+      → count ≡ length (reportOf marks groups (tableOf (take units lows) (take units highs)) passes)
+      → exit ≡ reportOf marks groups (tableOf (take units lows) (take units highs)) passes ++ drop count buffer
+      → reported (Written count passes) lows highs exit ≡ reportBy marks groups units answer lows highs buffer
   answer-written is counted holds = rw (is, holds, counted)
 
   -- what is reported of a settling is what is reported of its answer and the lists after it
   pub settled-reports : {answer : Settling} {settled : Settlement} → settlement answer lows highs ≡ settled
-      → reportBy groups units answer lows highs buffer ≡ reportSettled groups units settled buffer
+      → reportBy marks groups units answer lows highs buffer ≡ reportSettled marks groups units settled buffer
   unfolding reportSettled
   settled-reports is = rw (← is)
 
@@ -55,6 +56,7 @@ module _ {text flat₀ flat : List ℕ} {answer : Reading} (scanned : GroupsScan
     pub accepts : readJob text ≡ accepted job
     pub counts : length (job .lows) ≡ units
     pub lists : groupsIn groups flat ≡ job .groups
+    pub shut : marksIn units flat ≡ job .marks
     pub few : length (job .groups) ≡ groups
 
   found : {units groups : ℕ} → answer ≡ Read units groups → Found units groups
@@ -68,23 +70,26 @@ module _ {text flat₀ flat : List ℕ} {answer : Reading} (scanned : GroupsScan
             ap (λ (n : ℕ). groupsIn n flat) (sym few)
             ∙ ap (groupsIn (length (job .groups))) (scanned .found-flat job accepts)
             ∙ flatten-groups (job .groups) _;
+        shut = ap (λ (n : ℕ). marksIn n flat) (sym counts) ∙ scanned .found-marks job accepts;
         few = few;
       }
 
   -- its groups are within the limits
-  pub read-limits : {units groups : ℕ} → answer ≡ Read units groups → WithinLimits flat groups
+  pub read-limits : {units groups : ℕ} → answer ≡ Read units groups → WithinLimits flat groups units
   read-limits reads =
       let behind = found reads in
       let sound = accepted-sound text (behind .job) (behind .accepts) .built in
       record {
         few-groups = omega (arith, behind .few, sound .few-groups);
         few-memberships = rw (behind .lists) (sound .few-memberships);
+        each = λ group member.
+            subst (λ (n : ℕ). SoundGroup n group) (behind .counts) (each-sound (sound .groups-sound) group (rw (behind .lists) at member));
       }
 
   module _ (tableLows tableHighs : List ℕ) (scratch : ℕ) (buffer : List ℕ) (long : mostBytes ≤ length buffer) where
     -- it is reported as its groups are
     pub read-reports : {units groups : ℕ} → answer ≡ Read units groups
-        → reportSettled (groupsIn groups flat) units (settleJob (groupsIn groups flat) units tableLows tableHighs scratch) buffer
+        → reportSettled (marksIn units flat) (groupsIn groups flat) units (settleJob (marksIn units flat) (groupsIn groups flat) units tableLows tableHighs scratch) buffer
         ≡ reportText text tableLows tableHighs scratch buffer
     unfolding reportText
     read-reports {units} {groups} reads =
@@ -93,6 +98,7 @@ module _ {text flat₀ flat : List ℕ} {answer : Reading} (scanned : GroupsScan
           read-settles scanned reads tableLows tableHighs scratch,
           le-leb mostBytes (length buffer) long,
           behind .lists,
+          behind .shut,
           behind .accepts,
           behind .counts,
         )
@@ -103,4 +109,4 @@ module _ {text flat₀ flat : List ℕ} {answer : Reading} (scanned : GroupsScan
     unfolding reportText
     refused-reports refusal refuses =
         rw (le-leb mostBytes (length buffer) long)
-        (settled-reports _ _ buffer (refused-settles scanned refusal refuses tableLows tableHighs scratch))
+        (settled-reports _ _ _ buffer (refused-settles scanned refusal refuses tableLows tableHighs scratch))

@@ -10,7 +10,7 @@ use Rattle.model.specs.Groups.{Group}
 use Rattle.model.specs.Laws.Lists.{ranges-length}
 use Rattle.print.specs.Inner.Written.{Room}
 use Rattle.print.specs.Laws.Written.{Rest, begin, room-next, next, done, from-start}
-use Rattle.groups.specs.Inner.Flat.{groupsIn}
+use Rattle.groups.specs.Inner.Flat.{groupsIn, marksIn}
 use Rattle.works.specs.Tables.{Table, tableOf}
 use Rattle.report.specs.Laws.Lengths.{report-fits}
 use Rattle.report.specs.Lines.{settledLine}
@@ -19,13 +19,13 @@ use Rattle.report.specs.Reports.{unitLines, groupLines, reportOf}
 use Rattle.report.proofs.calls.put_report.Statement.{statement}
 use Rattle.report.proofs.calls.put_report.Tie as tie
 
-module _ {groups : List Group} {table : Table} {passes : ℕ} (ready : Reportable groups table passes) {buffer : List ℕ}
+module _ {marks : List ℕ} {groups : List Group} {table : Table} {passes : ℕ} (ready : Reportable marks groups table passes) {buffer : List ℕ}
     (long : mostBytes ≤ length buffer) where
-  room : Room buffer 0 (reportOf groups table passes)
+  room : Room buffer 0 (reportOf marks groups table passes)
   room = record { fits = omega (arith, report-fits ready) }
 
-  parts : Rest (reportOf groups table passes) buffer 0
-      (settledLine passes ∷ flatten (unitLines 1 (table .lows) (table .highs)) ∷ flatten (groupLines 1 table groups) ∷ []) buffer 0
+  parts : Rest (reportOf marks groups table passes) buffer 0
+      (settledLine passes ∷ flatten (unitLines 1 (table .lows) (table .highs)) ∷ flatten (groupLines marks 1 table groups) ∷ []) buffer 0
   unfolding reportOf
   parts = begin _ refl room
 
@@ -39,8 +39,8 @@ module _ (c : tie.After-put-settled-line) where
   abbrev start : tie.Start
   start = c .before .before .before .before .before .before
 
-  units-left : Rest (reportOf (groupsIn (start .args .groups) (start .args .flat .now)) (tableOf (start .args .lows .now) (start .args .highs .now)) (start .args .passes)) (start .args .buffer .now) 0
-      (flatten (unitLines 1 (start .args .lows .now) (start .args .highs .now)) ∷ flatten (groupLines 1 (tableOf (start .args .lows .now) (start .args .highs .now)) (groupsIn (start .args .groups) (start .args .flat .now))) ∷ [])
+  units-left : Rest (reportOf (marksIn (length (start .args .lows .now)) (start .args .flat .now)) (groupsIn (start .args .groups) (start .args .flat .now)) (tableOf (start .args .lows .now) (start .args .highs .now)) (start .args .passes)) (start .args .buffer .now) 0
+      (flatten (unitLines 1 (start .args .lows .now) (start .args .highs .now)) ∷ flatten (groupLines (marksIn (length (start .args .lows .now)) (start .args .flat .now)) 1 (tableOf (start .args .lows .now) (start .args .highs .now)) (groupsIn (start .args .groups) (start .args .flat .now))) ∷ [])
       (c .put-settled-line .last .0) (c .put-settled-line .result)
   units-left = next (parts (start .pre .0) (start .pre .1 .1)) (c .put-settled-line .ensures)
 
@@ -54,7 +54,7 @@ put-group-lines-requires c κs =
     let second = c .before .before .before in
     let first = second .before .before .before .before in
     let pre = start first .pre in (
-      record { holds = pre .1 .0; paired = ranges-length (pre .0 .valid); levelable = pre .0 .levelable },
+      record { holds = pre .1 .0 .holds; marked = pre .1 .0 .marked; paired = ranges-length (pre .0 .valid); levelable = pre .0 .levelable },
       room-next (next (units-left first) (second .put-unit-lines .ensures)),
     )
 

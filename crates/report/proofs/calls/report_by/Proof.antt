@@ -1,6 +1,7 @@
 -- A text that is read is reported as its groups are; one that is refused leaves all lists. Assumes nothing.
 use borrow.Author.Needs.{needs}
 use mathlib.Core.Path.{_∙_}
+use native.Mathlib.Omega.{arith}
 use lib.ListN.{length}
 use Rattle.works.specs.Laws.Accepted.{read-prepared}
 use Rattle.report.specs.Laws.Texts.{read-limits, read-reports, refused-reports}
@@ -22,7 +23,7 @@ report-job-requires c κs =
     let told = c .before .before .before .before .before .before in
     let scanned = told .before .before .before .before in
     let reads = told .reading .given .1 in
-    (read-prepared (scanned .scan-groups .ensures) reads, (read-limits (scanned .scan-groups .ensures) reads, start scanned .pre .1))
+    (read-prepared (scanned .scan-groups .ensures) (omega (arith, start scanned .pre .0, scanned .scan-groups .kept .1 .0)) reads, (read-limits (scanned .scan-groups .ensures) reads, start scanned .pre .1))
 
 enum-known-reading-2 : tie.Need-enum-known-reading-2
 enum-known-reading-2 c = search needs

@@ -16,9 +16,9 @@ put-answer-requires c κs =
     let settled = c .before .before .before .before .before .before .before .before .before in
     let start = settled .before .before .before .before .before .before .before .before .before in
     let kept = settled .settle-job .kept in
-    let answerable = settles-answerable (start .pre .0) (start .pre .1 .0) (start .args .lows .now) (start .args .highs .now) (length (start .args .scratch .now))
+    let answerable = settles-answerable (start .pre .1 .0) (start .args .lows .now) (start .args .highs .now) (length (start .args .scratch .now))
     (settled .settle-job .ensures) (omega (arith, kept)) (omega (arith, kept)) in
-    (answerable, (start .pre .0 .holds, start .pre .1 .1))
+    (answerable, (record { holds = start .pre .0 .holds; marked = start .pre .0 .marked }, start .pre .1 .1))
 
 same-length : tie.Need-same-length
 same-length c = search needs
@@ -36,7 +36,7 @@ returns : tie.Need-returns
 returns c =
     let call = c .before .before in
     let settled = call .before .before .before .before .before .before .before .before .before .before in
-    call .put-answer .ensures ∙ settled-reports _ _ _ (settled .settle-job .ensures)
+    call .put-answer .ensures ∙ settled-reports _ _ _ _ (settled .settle-job .ensures)
 
 pub report-job-spec : {M : Type 1} → statement M
 report-job-spec =

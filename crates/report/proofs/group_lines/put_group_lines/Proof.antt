@@ -12,9 +12,10 @@ use Rattle.groups.specs.Laws.Walk.{walk-whole}
 use Rattle.groups.specs.Memberships.{size}
 use Rattle.model.specs.Shares.{mostUnits}
 use Rattle.print.specs.Laws.Written.{room-next, keeps-length}
+use Rattle.works.specs.Inner.Asked.{HoldsMembers}
 use Rattle.works.specs.Tables.{Table, tableOf}
 use Rattle.report.specs.Reportable.{Levelable}
-use Rattle.report.specs.Inner.Asked.{lineOfLevelling}
+use Rattle.report.specs.Inner.Asked.{marksFor, lineOfLevelling}
 use Rattle.report.specs.Laws.Printing.{Printing, printing-start, printing-end, coming, next-levelable, next-rest, next-printing, count-few, levelled-line}
 use Rattle.report.specs.Reports.{lineOf}
 use Rattle.report.proofs.group_lines.put_group_lines.Statement.{statement}
@@ -65,7 +66,7 @@ module _ (c : tie.After-group-at Inv-loop μ-loop) where
   printing = turn .before .loop .inv .0
 
   -- it can be levelled
-  levelable : Levelable (table turn) (groupIn (flat turn) (c .group-at .result))
+  levelable : Levelable (marksFor (flat turn) (table turn)) (table turn) (groupIn (flat turn) (c .group-at .result))
   levelable = next-levelable _ _ _ _ _ printing (turn .loop-test .taken) read
 
   -- it lies within the list
@@ -78,7 +79,8 @@ slice-aggregate-level-stored c = sym (c .before .before .before .loop .inv .1)
 level-stored-requires : tie.Need-level-stored-requires Inv-loop μ-loop
 level-stored-requires c κs =
     let g = c .before in
-    (levelable g, (start (turn g) .pre .0 .paired, (within g, omega (arith, turn g .before .loop .inv .1))))
+    let holds : HoldsMembers _ _ _ = record { whole = within g; marked = start (turn g) .pre .0 .marked } in
+    (levelable g, (start (turn g) .pre .0 .paired, (holds, omega (arith, turn g .before .loop .inv .1))))
 
 -- once it is levelled
 module _ (c : tie.After-level-stored Inv-loop μ-loop) where
@@ -92,7 +94,7 @@ module _ (c : tie.After-level-stored Inv-loop μ-loop) where
   -- its line is the one defined
   line : lineOfLevelling (turn here .before .loop .number + 1) (c .level-stored .result)
       (take (here .group-at .result .count) (c .level-stored .last .1 .1 .1 .1 .0))
-      ≡ lineOf (turn here .before .loop .number + 1) (table (turn here)) (groupIn (flat (turn here)) (here .group-at .result))
+      ≡ lineOf (marksFor (flat (turn here)) (table (turn here))) (turn here .before .loop .number + 1) (table (turn here)) (groupIn (flat (turn here)) (here .group-at .result))
   line = levelled-line _ counted (c .level-stored .ensures)
 
 array-share-prefix-plan : tie.Need-array-share-prefix-plan Inv-loop μ-loop
