@@ -37,15 +37,15 @@ abbrev pub writtenAfter : Check → List ℕ → WrittenText → WrittenText
 writtenAfter (Failed refusal) buffer next = writtenText (Refused refusal) buffer
 writtenAfter Passed buffer next = next
 
--- writing groups over the first units of a table; the checks are settling's, with a scratch that is long enough
-unfoldable pub writeOver : List Group → ℕ → List ℕ → List ℕ → List ℕ → WrittenText
-writeOver groups units lows highs buffer =
-    writtenAfter (checkTable units lows highs (8 * units)) buffer (writeJob (jobWith groups (firstOf units lows highs)) buffer)
+-- writing groups over the first units of a table, which have these marks; the checks are settling's, with a scratch that is long enough
+unfoldable pub writeOver : List ℕ → List Group → ℕ → List ℕ → List ℕ → List ℕ → WrittenText
+writeOver marks groups units lows highs buffer =
+    writtenAfter (checkTable marks units lows highs (8 * units)) buffer (writeJob (jobWith marks groups (firstOf units lows highs)) buffer)
 
 -- 02: "borrows no scratch and refuses as settling does up to 7 for the lent ranges"
 unfoldable pub writeText : List ℕ → List ℕ → List ℕ → List ℕ → WrittenText
 writeText text lows highs buffer =
     elim (readJob text) [
-      | accepted found ↦ writeOver (found .groups) (length (found .lows)) lows highs buffer
+      | accepted found ↦ writeOver (found .marks) (found .groups) (length (found .lows)) lows highs buffer
       | refused refusal ↦ writtenText (Refused refusal) buffer
     ]

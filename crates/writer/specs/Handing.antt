@@ -7,18 +7,20 @@ use Rattle.job.specs.TextLines.{linesOf}
 use Rattle.model.specs.Groups.{Group}
 use Rattle.report.specs.Lines.{settledLine, refusalLine}
 use Rattle.report.specs.Program.{printedOf}
+use Rattle.works.specs.Resting.{runningGroups}
 use Rattle.works.specs.Settling.{Outcome, settle}
 use Rattle.works.specs.Tables.{tableOf}
 use Rattle.writer.specs.Texts.{jobWith, jobText}
 
 -- what is handed on of a settling: the settled job as a job text, or the refusal's line
-unfoldable pub handedAfter : List Group → Outcome → List ℕ
-handedAfter groups (Outcome.settled table passes) = jobText (jobWith groups table)
-handedAfter groups (Outcome.refused number place passes) = refusalLine number place
+unfoldable pub handedAfter : List ℕ → List Group → Outcome → List ℕ
+handedAfter marks groups (Outcome.settled table passes) = jobText (jobWith marks groups table)
+handedAfter marks groups (Outcome.refused number place passes) = refusalLine number place
 
--- of a reading: a job is settled from the ranges of its unit lines
+-- of a reading: a job is settled from the ranges of its unit lines, with its running members
 unfoldable pub handedRead : JobOrRefusal → List ℕ
-handedRead (accepted found) = handedAfter (found .groups) (settle (found .groups) (tableOf (found .lows) (found .highs)))
+handedRead (accepted found) =
+    handedAfter (found .marks) (found .groups) (settle (runningGroups (found .marks) (found .groups)) (tableOf (found .lows) (found .highs)))
 handedRead (refused refusal) = refusalLine (refusal .number) (refusal .place)
 
 -- 02: "The day desk wants a settled job as a job text, to start from"

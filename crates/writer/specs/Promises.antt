@@ -7,7 +7,7 @@ use Rattle.job.specs.Job.{Job}
 use Rattle.model.specs.Refusals.{refusal}
 use Rattle.model.specs.Shares.{mostUnits}
 use Rattle.model.specs.declared.Refusal.{Refusal}
-use Rattle.works.specs.Called.{Cleared, groups, opening}
+use Rattle.works.specs.Called.{Cleared, groups, marks, opening}
 use Rattle.works.specs.Calls.{settleText}
 use Rattle.works.specs.declared.Settling.the-variants as settling
 use Rattle.writer.specs.Calls.{WrittenText}
@@ -15,7 +15,7 @@ use Rattle.writer.specs.Texts.{jobWith, jobText}
 
 -- the job of the text with the lent ranges
 abbrev pub lentJob : {text lows highs : List ℕ} {scratch : ℕ} → Cleared text lows highs scratch → Job
-lentJob cleared = jobWith (groups cleared) (opening cleared)
+lentJob cleared = jobWith (marks cleared) (groups cleared) (opening cleared)
 
 -- the text written: as many bytes of the buffer as the call answers
 abbrev pub textIn : ℕ → WrittenText → List ℕ

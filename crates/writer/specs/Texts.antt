@@ -1,28 +1,35 @@
 -- The text of a job, in the form of 01. Assumes nothing.
 use Prim.Native.Nat.{ℕ, suc}
 use mathlib.Core.List.{List, [], _∷_, _++_, map, flatten}
-use Rattle.job.specs.Form.{printUnit, printGroup}
+use Rattle.job.specs.Form.{range, shut, printUnitLine, printGroup}
 use Rattle.job.specs.Job.{Job}
 use Rattle.model.specs.Groups.{Group}
+use Rattle.model.specs.Running.{runs}
+use Rattle.model.specs.Shares.{pick}
 use Rattle.works.specs.Tables.{Table}
 
--- the unit line of each range, in order
-unfoldable pub rangeLines : List ℕ → List ℕ → List (List ℕ)
-rangeLines [] highs = []
-rangeLines (l ∷ lows) [] = []
-rangeLines (l ∷ lows) (h ∷ highs) = printUnit l h ∷ rangeLines lows highs
+-- a unit's line: its range, or `(shut)` where its mark is not 0
+abbrev pub rangeLine : ℕ → ℕ → ℕ → List ℕ
+rangeLine mark low high = printUnitLine (pick (runs mark) (range low high) shut)
+
+-- the unit line of each unit, in order
+unfoldable pub rangeLines : List ℕ → List ℕ → List ℕ → List (List ℕ)
+rangeLines [] lows highs = []
+rangeLines (m ∷ marks) [] highs = []
+rangeLines (m ∷ marks) (l ∷ lows) [] = []
+rangeLines (m ∷ marks) (l ∷ lows) (h ∷ highs) = rangeLine m l h ∷ rangeLines marks lows highs
 
 -- a group's line: its total, its limits and its members' unit numbers, counted from 1
 unfoldable pub memberLine : Group → List ℕ
 memberLine group = printGroup (group .total) (group .limits) (map suc (group .members))
 
--- the job of these groups with the ranges of a table
-abbrev pub jobWith : List Group → Table → Job
-jobWith groups table = record { lows = table .lows; highs = table .highs; groups = groups }
+-- the job of units with these marks and of these groups, with the ranges of a table
+abbrev pub jobWith : List ℕ → List Group → Table → Job
+jobWith marks groups table = record { lows = table .lows; highs = table .highs; marks = marks; groups = groups }
 
 -- the lines of a job; 01: "Unit lines precede group lines"
 abbrev pub jobLines : Job → List (List ℕ)
-jobLines job = rangeLines (job .lows) (job .highs) ++ map memberLine (job .groups)
+jobLines job = rangeLines (job .marks) (job .lows) (job .highs) ++ map memberLine (job .groups)
 
 -- 02: "any job and its table become text in 01's form"
 unfoldable pub jobText : Job → List ℕ

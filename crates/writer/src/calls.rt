@@ -3,6 +3,7 @@ use crate::Writing;
 use crate::lines::put_member_lines;
 use crate::lines::put_range_lines;
 use group::Check;
+use groups::MARKS;
 use groups::flat_room;
 use job::Reading;
 use job::scan_groups;
@@ -13,7 +14,7 @@ ghost use Prim.Native.Nat.{_≤_};
 ghost use mathlib.Core.List.{_++_};
 ghost use mathlib.Core.Path.{_≡_};
 ghost use lib.ListN.{length, drop};
-ghost use Rattle.groups.specs.Inner.Flat.{groupsIn, Holds};
+ghost use Rattle.groups.specs.Inner.Flat.{groupsIn, marksIn, Holds};
 ghost use Rattle.job.specs.Sound.{SoundJob};
 ghost use Rattle.writer.specs.Calls.{writtenText, writeJob, writeOver, writeText};
 ghost use Rattle.writer.specs.Inner.Asked.{jobHeld, HeldGroups};
@@ -30,7 +31,8 @@ fn put_job(buffer: &mut [u8], flat: &[u64], groups: u64, lows: &[u64], highs: &[
     ensures { λ r. ⌜ r ≡ length (jobText (jobHeld (now (flat .entry)) groups (now (lows .entry)) (now (highs .entry)))) ⌝ }
     ensures { λ r. ⌜ now (buffer .exit) ≡ jobText (jobHeld (now (flat .entry)) groups (now (lows .entry)) (now (highs .entry))) ++ drop r (now (buffer .entry)) ⌝ }
 {
-    let next = put_range_lines(buffer, 0, lows, highs);
+    let end = MARKS + lows.len();
+    let next = put_range_lines(buffer, 0, &flat[MARKS..end], lows, highs);
     put_member_lines(buffer, next, flat, groups)
 }
 
@@ -79,9 +81,10 @@ fn write_over(
     buffer: &mut [u8],
 ) -> Writing
     requires { ⌜ HeldGroups (now flat) groups units ⌝ }
-    ensures { λ r. ⌜ writtenText r (now (buffer .exit)) ≡ writeOver (groupsIn groups (now (flat .entry))) units (now (lows .entry)) (now (highs .entry)) (now (buffer .entry)) ⌝ }
+    ensures { λ r. ⌜ writtenText r (now (buffer .exit)) ≡ writeOver (marksIn units (now (flat .entry))) (groupsIn groups (now (flat .entry))) units (now (lows .entry)) (now (highs .entry)) (now (buffer .entry)) ⌝ }
 {
-    let check = check_table(units, lows, highs, 8 * units);
+    let end = MARKS + units;
+    let check = check_table(&flat[MARKS..end], units, lows, highs, 8 * units);
     match check {
         Check::Failed(refusal) => Writing::Refused(refusal),
         Check::Passed => write_job(flat, groups, &lows[..units], &highs[..units], buffer),

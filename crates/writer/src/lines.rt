@@ -3,6 +3,7 @@ use groups::Stored;
 use groups::group_at;
 use model::Limit;
 use model::Limits;
+use model::RUNNING;
 use print::put_form;
 use print::put_item;
 use print::put_line;
@@ -13,33 +14,42 @@ ghost use mathlib.Core.List.{flatten, _++_, map};
 ghost use mathlib.Core.Path.{_≡_};
 ghost use lib.ListN.{length};
 ghost use Rattle.groups.specs.Inner.Flat.{groupIn, groupsIn, Holds};
-ghost use Rattle.job.specs.Form.{printLimit, printUnit};
+ghost use Rattle.job.specs.Form.{printLimit};
 ghost use Rattle.job.specs.Sound.{AcceptedGroups};
 ghost use Rattle.model.specs.Shares.{mostUnits};
 ghost use Rattle.print.specs.Inner.Written.{Room, Wrote};
 ghost use Rattle.print.specs.Items.{items};
 ghost use Rattle.works.specs.Tables.{Named};
 ghost use Rattle.writer.specs.Inner.Pieces.{groupHead};
-ghost use Rattle.writer.specs.Texts.{rangeLines, memberLine};
+ghost use Rattle.writer.specs.Texts.{rangeLine, rangeLines, memberLine};
 
-// Writes a unit's line, and hands back the index after it.
-fn put_range_line(buffer: &mut [u8], at: usize, low: u64, high: u64) -> usize
-    requires { ⌜ Room (now buffer) at (printUnit low high) ⌝ }
-    ensures { λ r. ⌜ Wrote (printUnit low high) (now (buffer .entry)) at (now (buffer .exit)) r ⌝ }
+// Writes a unit's line, its range or the word shut, and hands back the index after it.
+fn put_range_line(buffer: &mut [u8], at: usize, mark: u64, low: u64, high: u64) -> usize
+    requires { ⌜ Room (now buffer) at (rangeLine mark low high) ⌝ }
+    ensures { λ r. ⌜ Wrote (rangeLine mark low high) (now (buffer .entry)) at (now (buffer .exit)) r ⌝ }
 {
-    put_line(buffer, at, b"(unit", &[low, high])
+    if mark == RUNNING {
+        return put_line(buffer, at, b"(unit", &[low, high]);
+    }
+    put_word(buffer, at, b"(shut)\n")
 }
 
-// Writes the unit lines of all ranges, and hands back the index after them.
-pub fn put_range_lines(buffer: &mut [u8], at: usize, lows: &[u64], highs: &[u64]) -> usize
-    requires { ⌜ length (now highs) ≡ length (now lows) ⌝ }
-    requires { ⌜ Room (now buffer) at (flatten (rangeLines (now lows) (now highs))) ⌝ }
-    ensures { λ r. ⌜ Wrote (flatten (rangeLines (now (lows .entry)) (now (highs .entry)))) (now (buffer .entry)) at (now (buffer .exit)) r ⌝ }
+// Writes the unit lines of all units, and hands back the index after them.
+pub fn put_range_lines(
+    buffer: &mut [u8],
+    at: usize,
+    marks: &[u64],
+    lows: &[u64],
+    highs: &[u64],
+) -> usize
+    requires { ⌜ (length (now highs) ≡ length (now lows)) × (length (now marks) ≡ length (now lows)) ⌝ }
+    requires { ⌜ Room (now buffer) at (flatten (rangeLines (now marks) (now lows) (now highs))) ⌝ }
+    ensures { λ r. ⌜ Wrote (flatten (rangeLines (now (marks .entry)) (now (lows .entry)) (now (highs .entry)))) (now (buffer .entry)) at (now (buffer .exit)) r ⌝ }
 {
     let mut next = at;
     let mut i: usize = 0;
     while i < lows.len() {
-        next = put_range_line(buffer, next, lows[i], highs[i]);
+        next = put_range_line(buffer, next, marks[i], lows[i], highs[i]);
         i += 1;
     }
     next

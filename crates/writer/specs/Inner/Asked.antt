@@ -3,7 +3,7 @@ use Prim.Native.Nat.{ℕ}
 use mathlib.Core.List.{List}
 use mathlib.Core.Path.{_≡_}
 use lib.ListN.{length}
-use Rattle.groups.specs.Inner.Flat.{groupsIn, Holds}
+use Rattle.groups.specs.Inner.Flat.{groupsIn, marksIn, Holds}
 use Rattle.job.specs.Job.{Job}
 use Rattle.job.specs.Sound.{SoundJob}
 use Rattle.report.specs.Inner.Printed.{Opened}
@@ -13,17 +13,18 @@ use Rattle.works.specs.Tables.{tableOf}
 use Rattle.works.specs.declared.Settling.{Settling}
 use Rattle.writer.specs.Texts.{jobWith}
 
--- the job of a flat list's groups and these ranges
+-- the job of a flat list's groups and marks and of these ranges
 abbrev pub jobHeld : List ℕ → ℕ → List ℕ → List ℕ → Job
-jobHeld flat count lows highs = jobWith (groupsIn count flat) (tableOf lows highs)
+jobHeld flat count lows highs = jobWith (marksIn (length lows) flat) (groupsIn count flat) (tableOf lows highs)
 
--- a flat list holds the groups of a sound job of so many units
+-- a flat list holds the groups and the marks of a sound job of so many units
 pub record HeldGroups (flat : List ℕ) (count units : ℕ) : Type 0 where
   pub holds : Holds count flat
   pub job : Job
   pub sound : SoundJob job
   pub lists : job .groups ≡ groupsIn count flat
   pub counts : length (job .lows) ≡ units
+  pub marked : job .marks ≡ marksIn units flat
 
 -- settling's checks let a text and a table through, with some scratch
 pub record LetThrough (text lows highs : List ℕ) : Type 0 where

@@ -14,7 +14,7 @@ use Rattle.job.specs.Laws.Sound.{accepted-sound}
 use Rattle.job.specs.Sound.{SoundJob}
 use Rattle.model.specs.Refusals.{refusal}
 use Rattle.model.specs.declared.Refusal.{Refusal}
-use Rattle.works.specs.Called.{Cleared, count}
+use Rattle.works.specs.Called.{Cleared, groups, marks, count}
 use Rattle.works.specs.Calls.{checkTable, settleJob, settleText}
 use Rattle.works.specs.Laws.Called as works
 use Rattle.works.specs.Laws.Checked.{passed-room}
@@ -28,10 +28,10 @@ use Rattle.writer.specs.declared.Writing.{Writing}
 use Rattle.writer.specs.declared.Writing.the-variants.{Written, Refused}
 
 -- a scratch that is long enough changes no check
-check-any : (units : ℕ) (lows highs : List ℕ) (scratch other : ℕ) → 8 * units ≤ scratch → 8 * units ≤ other
-    → checkTable units lows highs scratch ≡ checkTable units lows highs other
+check-any : (marks : List ℕ) (units : ℕ) (lows highs : List ℕ) (scratch other : ℕ) → 8 * units ≤ scratch → 8 * units ≤ other
+    → checkTable marks units lows highs scratch ≡ checkTable marks units lows highs other
 unfolding checkTable
-check-any units lows highs scratch other long wide = rw (le-leb (8 * units) scratch long, le-leb (8 * units) other wide)
+check-any marks units lows highs scratch other long wide = rw (le-leb (8 * units) scratch long, le-leb (8 * units) other wide)
 
 -- what a call answers
 answers : {w : WrittenText} {answer : Writing} {buffer : List ℕ} → w ≡ writtenText answer buffer → w .answer ≡ answer
@@ -41,16 +41,18 @@ answers is = ap (λ (w : WrittenText). w .answer) is
 module _ {text lows highs : List ℕ} {scratch : ℕ} (cleared : Cleared text lows highs scratch) where
   -- the job with the lent ranges is sound
   pub lent-sound : SoundJob (lentJob cleared)
-  lent-sound = over-sound lows highs scratch (cleared .found) (accepted-sound text (cleared .found) (cleared .reads)) refl refl (cleared .passes)
+  lent-sound =
+      over-sound lows highs scratch (cleared .found) (accepted-sound text (cleared .found) (cleared .reads)) refl refl refl (cleared .passes)
 
   -- it is what is written
   pub write-lent : (buffer : List ℕ) → writeText text lows highs buffer ≡ writeJob (lentJob cleared) buffer
   unfolding writeText
   write-lent buffer =
       let units : ℕ = count cleared in
-      let long = passed-room units lows highs scratch (cleared .passes) .forScratch in
-      let passes : checkTable units lows highs (8 * units) ≡ Passed = check-any units lows highs (8 * units) scratch (omega arith) long ∙ cleared .passes in
-      rw (writeText, cleared .reads) (sym (over-passed (cleared .found .groups) units lows highs buffer passes))
+      let long = passed-room (marks cleared) units lows highs scratch (cleared .passes) .forScratch in
+      let passes : checkTable (marks cleared) units lows highs (8 * units) ≡ Passed =
+      check-any (marks cleared) units lows highs (8 * units) scratch (omega arith) long ∙ cleared .passes in
+      rw (writeText, cleared .reads) (sym (over-passed (marks cleared) (groups cleared) units lows highs buffer passes))
 
   -- it is written where it fits the buffer
   pub write-fits : (buffer : List ℕ) → length (jobText (lentJob cleared)) ≤ length buffer
@@ -97,20 +99,20 @@ module _ (text lows highs buffer : List ℕ) where
       elim (decLe (length (jobText (lentJob cleared))) (length buffer))
       [ yes fits ↦ WriteEnds.written cleared fits | no long ↦ WriteEnds.short cleared (omega arith) ]
 
-  by-check : (found : Job) → readJob text ≡ accepted found → (check : Check) → checkTable (length (found .lows)) lows highs mostScratch ≡ check
-      → WriteEnds
+  by-check : (found : Job) → readJob text ≡ accepted found → (check : Check)
+      → checkTable (found .marks) (length (found .lows)) lows highs mostScratch ≡ check → WriteEnds
   unfolding writeText settleText settleJob
   by-check found reads Passed passes = by-room (record { found = found; reads = reads; passes = passes })
   by-check found reads (Failed reason) fails =
       let few = accepted-sound text found reads .built .few-units in
-      let same = check-any (length (found .lows)) lows highs (8 * length (found .lows)) mostScratch (omega arith) (omega arith) in
+      let same = check-any (found .marks) (length (found .lows)) lows highs (8 * length (found .lows)) mostScratch (omega arith) (omega arith) in
       WriteEnds.ahead reason
       (rw (settleText, reads, fails) refl)
-      (rw (writeText, reads) (sym (over-failed (found .groups) (length (found .lows)) lows highs buffer reason (same ∙ fails))))
+      (rw (writeText, reads) (sym (over-failed (found .marks) (found .groups) (length (found .lows)) lows highs buffer reason (same ∙ fails))))
 
   by-text : (o : JobOrRefusal) → readJob text ≡ o → WriteEnds
   unfolding writeText settleText
-  by-text (accepted found) reads = by-check found reads (checkTable (length (found .lows)) lows highs mostScratch) refl
+  by-text (accepted found) reads = by-check found reads (checkTable (found .marks) (length (found .lows)) lows highs mostScratch) refl
   by-text (refused reason) refuses = WriteEnds.ahead reason (rw (settleText, refuses) refl) (rw (writeText, refuses) refl)
 
   write-ends : WriteEnds

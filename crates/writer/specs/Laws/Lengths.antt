@@ -12,6 +12,7 @@ use Rattle.job.specs.Job.{Job}
 use Rattle.job.specs.Sound.{AcceptedGroup, AcceptedGroups, SoundJob}
 use Rattle.model.specs.Figures.{limitWithin}
 use Rattle.model.specs.Groups.{Group}
+use Rattle.model.specs.Running.{Marked}
 use Rattle.model.specs.Shares.{Ranges, mostUnits}
 use Rattle.model.specs.declared.Limit.{Limit}
 use Rattle.model.specs.declared.Limit.the-variants.{Any, AtMost}
@@ -32,16 +33,18 @@ unit-length low high p q =
     )
 
 -- the unit lines
-ranges-length : {lows highs : List ℕ} → Ranges lows highs → length (flatten (rangeLines lows highs)) ≤ 23 * length lows
+ranges-length : {marks lows highs : List ℕ} → Ranges lows highs → Marked marks lows highs
+    → length (flatten (rangeLines marks lows highs)) ≤ 23 * length lows
 unfolding rangeLines flatten
-ranges-length Ranges.none = omega arith
-ranges-length (Ranges.also {l} {h} {ls} {hs} ordered fits ranges) =
+ranges-length Ranges.none Marked.none = omega arith
+ranges-length (Ranges.also {l} {h} {ls} {hs} ordered fits ranges) (Marked.run {ms = ms} marked) =
     omega (
       arith,
-      length-append (printUnit l h) (flatten (rangeLines ls hs)),
+      length-append (printUnit l h) (flatten (rangeLines ms ls hs)),
       unit-length l h (omega arith) (omega arith),
-      ranges-length ranges,
+      ranges-length ranges marked,
     )
+ranges-length (Ranges.also ordered fits ranges) (Marked.shut marked) = omega (arith, ranges-length ranges marked)
 
 -- a limit, with at most so many digits
 limit-length : (k : ℕ) (limit : Limit) {most : ℕ} → most < 10 ^ suc k → 2 ≤ k → limitWithin limit most ≡ true → length (printLimit limit) ≤ suc k
@@ -100,13 +103,13 @@ pub text-fits : (job : Job) → SoundJob job → length (jobText job) ≤ mostWr
 unfolding jobText
 text-fits job sound =
     let built = sound .built in
-    let units : List (List ℕ) = rangeLines (job .lows) (job .highs) in
+    let units : List (List ℕ) = rangeLines (job .marks) (job .lows) (job .highs) in
     let groups : List (List ℕ) = map memberLine (job .groups) in
     omega (
       arith,
       ap length (joined-both units groups),
       length-append (flatten units) (flatten groups),
-      ranges-length (built .ranges),
+      ranges-length (built .ranges) (built .marked),
       groups-length (built .few-units) (built .groups-sound),
       built .few-units,
       built .few-groups,

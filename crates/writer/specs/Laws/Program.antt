@@ -8,10 +8,11 @@ use Rattle.job.specs.Job.{mostBytes}
 use Rattle.model.specs.declared.Refusal.{Refusal}
 use Rattle.report.specs.Inner.Printed.{Opened}
 use Rattle.report.specs.Lines.{refusalLine}
-use Rattle.works.specs.Called.{Cleared, groups, opening, called}
+use Rattle.works.specs.Called.{Cleared, groups, marks, opening, called}
 use Rattle.works.specs.Calls.{Settlement, settlement, settleText}
 use Rattle.works.specs.Laws.Called.{CallEnds, ends, says, called-settled}
 use Rattle.works.specs.Laws.Repeated.{settled-cleared}
+use Rattle.works.specs.Resting.{runningGroups}
 use Rattle.works.specs.Settling.{Outcome, settle}
 use Rattle.works.specs.declared.Settling.{Settling}
 use Rattle.works.specs.declared.Settling.the-variants.{Settled, NoPlan, Refused}
@@ -38,9 +39,11 @@ module _ {text lows highs : List ℕ} {scratch : ℕ} (opened : Opened text lows
   cleared = opened .cleared
 
   -- what is handed on is of its outcome
-  handed-opening : {outcome : Outcome} → settle (groups cleared) (opening cleared) ≡ outcome → handedOn text ≡ handedAfter (groups cleared) outcome
+  handed-opening : {outcome : Outcome} → settle (runningGroups (marks cleared) (groups cleared)) (opening cleared) ≡ outcome
+      → handedOn text ≡ handedAfter (marks cleared) (groups cleared) outcome
   handed-opening settles =
-      handed-settles text (cleared .found) (cleared .reads) (ap (settle (groups cleared)) (sym (opened .opens)) ∙ settles)
+      handed-settles text (cleared .found) (cleared .reads)
+      (ap (settle (runningGroups (marks cleared) (groups cleared))) (sym (opened .opens)) ∙ settles)
 
   answered : called cleared .answer ≡ answer
   answered = ap (λ (s : Settlement). s .answer) (sym is)

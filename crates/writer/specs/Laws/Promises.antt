@@ -13,13 +13,13 @@ use Rattle.job.specs.declared.Reading.the-variants.{Read}
 use Rattle.model.specs.Laws.Lists.{ranges-length}
 use Rattle.report.specs.Inner.Printed.{Opened}
 use Rattle.report.specs.Laws.Printed.{filled-opens}
-use Rattle.works.specs.Called.{Cleared, firstOf, groups, count, opening, called, after}
+use Rattle.works.specs.Called.{Cleared, firstOf, groups, marks, count, opening, called, after}
 use Rattle.works.specs.Calls.{settlement, settleText}
-use Rattle.works.specs.Consistency.{Consistent}
 use Rattle.works.specs.Laws.Called.{opening-sound, called-is, called-settled, called-consistent}
 use Rattle.works.specs.Laws.Checked.{passed-room}
 use Rattle.works.specs.Laws.Repeated.{settled-cleared}
 use Rattle.works.specs.Laws.Settled.{settled-again}
+use Rattle.works.specs.Resting.{runningGroups, AtRest}
 use Rattle.works.specs.Settling.{Outcome, settle}
 use Rattle.works.specs.Tables.{Table, tableOf}
 use Rattle.works.specs.declared.Settling.the-variants.{Settled}
@@ -69,7 +69,7 @@ module _ {text lows highs : List ℕ} {scratch : ℕ} (cleared : Cleared text lo
       (filled : ReadInto (textIn size (writeText text lows highs buffer)) lows₀ highs₀ nextLows nextHighs answer)
       (forLows : count cleared ≤ length lows₀) (forHighs : count cleared ≤ length highs₀) where
     as-many : length (lentJob cleared .lows) ≡ count cleared
-    as-many = length-take-le (count cleared) lows (passed-room (count cleared) lows highs scratch (cleared .passes) .forLows)
+    as-many = length-take-le (count cleared) lows (passed-room (marks cleared) (count cleared) lows highs scratch (cleared .passes) .forLows)
 
     found : readTable (textIn size (writeText text lows highs buffer)) (length lows₀) (length highs₀) ≡ accepted (lentJob cleared)
     found = table-fits _ _ _ (lentJob cleared) written-accepted (omega (arith, as-many)) (omega (arith, as-many))
@@ -95,8 +95,21 @@ read-written {text} {lows = lows} {highs = highs} {units = units} filled buffer 
     let opened : Opened text lows highs (8 * units) = filled-opens filled refl (8 * units) (omega arith) in
     let cleared = opened .cleared in
     let same : jobText (lentJob cleared) ≡ text =
-    ap (λ (table : Table). jobText (jobWith (groups cleared) table)) (opened .opens) ∙ accepted-text text (cleared .reads) in
+    ap (λ (table : Table). jobText (jobWith (marks cleared) (groups cleared) table)) (opened .opens) ∙ accepted-text text (cleared .reads) in
     write-fits cleared buffer (omega (arith, ap length same)) ∙ rw same
+
+-- a job at rest that is read back opens at rest
+rests-again : {found job : Job} {table : Table} → table ≡ tableOf (found .lows) (found .highs) → found ≡ job
+    → settle (runningGroups (job .marks) (job .groups)) (tableOf (job .lows) (job .highs)) ≡ Outcome.settled (tableOf (job .lows) (job .highs)) 1
+    → settle (runningGroups (found .marks) (found .groups)) table ≡ Outcome.settled table 1
+rests-again opens same rests = rw (opens, same) rests
+
+-- a table at rest settles in one pass, unchanged
+one-pass : {text lows highs : List ℕ} {scratch : ℕ} (cleared : Cleared text lows highs scratch)
+    → settle (runningGroups (marks cleared) (groups cleared)) (opening cleared) ≡ Outcome.settled (opening cleared) 1
+    → called cleared ≡ settlement (Settled 1) lows highs
+one-pass {lows = lows} {highs = highs} cleared rests =
+    called-is cleared ∙ rw (rests, take-append-drop (count cleared) lows, take-append-drop (count cleared) highs)
 
 -- a settled table, written
 module _ {text lows highs : List ℕ} {scratch : ℕ} (cleared : Cleared text lows highs scratch) {passes : ℕ}
@@ -113,7 +126,7 @@ module _ {text lows highs : List ℕ} {scratch : ℕ} (cleared : Cleared text lo
   settled-read = written-read again buffer is filled forLows forHighs .1
 
   -- so it is at rest
-  pub settled-rests : Consistent (groups cleared) (firstOf (count cleared) nextLows nextHighs)
+  pub settled-rests : AtRest (marks cleared) (groups cleared) (firstOf (count cleared) nextLows nextHighs)
   settled-rests = rw settled-read (called-consistent cleared settles)
 
   -- and settles in one pass, unchanged
@@ -125,11 +138,5 @@ module _ {text lows highs : List ℕ} {scratch : ℕ} (cleared : Cleared text lo
       let opened : Opened out nextLows nextHighs room = filled-opens filled (written-read again buffer is filled forLows forHighs .0) room long in
       let job-is : accepted (opened .cleared .found) ≡ accepted (lentJob again) = sym (opened .cleared .reads) ∙ written-accepted again buffer is in
       let same : opened .cleared .found ≡ lentJob again = cc in
-      let table-is : opening (opened .cleared) ≡ after cleared = opened .opens ∙ ap (λ (job : Job). tableOf (job .lows) (job .highs)) same in
-      let at-rest : settle (groups (opened .cleared)) (opening (opened .cleared)) ≡ Outcome.settled (opening (opened .cleared)) 1 =
-      ap (settle (groups (opened .cleared))) (opened .opens)
-      ∙ ap (λ (job : Job). settle (job .groups) (tableOf (job .lows) (job .highs))) same
-      ∙ settled-again (opening-sound cleared) (called-settled cleared settles)
-      ∙ ap (λ (table : Table). Outcome.settled table 1) (sym table-is) in
-      called-is (opened .cleared)
-      ∙ rw (at-rest, take-append-drop (count (opened .cleared)) nextLows, take-append-drop (count (opened .cleared)) nextHighs)
+      let at-rest = rests-again (opened .opens) same (settled-again (opening-sound cleared) (called-settled cleared settles)) in
+      one-pass (opened .cleared) at-rest

@@ -9,7 +9,7 @@ use lib.Dec.{leb}
 use lib.ListN.{length, length-append}
 use Rattle.groups.specs.Memberships.{memberships}
 use Rattle.job.specs.Accepting.{Takes}
-use Rattle.job.specs.Form.{Line, unit, group, printUnit, printLine}
+use Rattle.job.specs.Form.{Line, UnitLine, range, shut, lineLow, lineHigh, lineMark, unit, group, printUnitLine, printLine}
 use Rattle.job.specs.Job.{Job, named, allNamed, memberOf, groupOf, headVerdict, membersVerdict, verdict, add, accepted, readJob}
 use Rattle.job.specs.Laws.Accepting.{accepted-takes, takes-accepted}
 use Rattle.job.specs.Laws.TextLines.{joined-lines}
@@ -19,7 +19,7 @@ use Rattle.model.specs.Groups.{Group}
 use Rattle.model.specs.Laws.Tests.{both-left, both-right}
 use Rattle.writer.specs.Laws.Lengths.{text-fits}
 use Rattle.writer.specs.Laws.Taken.{takes-job}
-use Rattle.writer.specs.Texts.{rangeLines, memberLine, jobLines, jobText}
+use Rattle.writer.specs.Texts.{rangeLine, rangeLines, memberLine, jobLines, jobText}
 
 -- named unit numbers are those of their members
 numbers-again : (units : ℕ) (ms : List ℕ) → allNamed units ms ≡ true → map suc (map memberOf ms) ≡ ms
@@ -30,14 +30,22 @@ numbers-again units (m ∷ ms) held =
     let same : suc (memberOf m) ≡ m = omega arith in
     rw (same, numbers-again units ms (both-right (named units m) (allNamed units ms) held))
 
--- one range more is one line more
-ranges-snoc : (lows highs : List ℕ) (l h : ℕ) → length highs ≡ length lows
-    → rangeLines (lows ++ l ∷ []) (highs ++ h ∷ []) ≡ rangeLines lows highs ++ printUnit l h ∷ []
+-- a unit line is that of its mark and its range
+line-again : (l : UnitLine) → rangeLine (lineMark l) (lineLow l) (lineHigh l) ≡ printUnitLine l
+line-again (range low high) = refl
+line-again shut = refl
+
+-- one unit more is one line more
+ranges-snoc : (marks lows highs : List ℕ) (mark low high : ℕ) → length highs ≡ length lows → length marks ≡ length lows
+    → rangeLines (marks ++ mark ∷ []) (lows ++ low ∷ []) (highs ++ high ∷ []) ≡ rangeLines marks lows highs ++ rangeLine mark low high ∷ []
 unfolding rangeLines
-ranges-snoc [] [] l h paired = refl
-ranges-snoc [] (k ∷ highs) l h paired = absurd (omega arith)
-ranges-snoc (m ∷ lows) [] l h paired = absurd (omega arith)
-ranges-snoc (m ∷ lows) (k ∷ highs) l h paired = ap (λ (ls : List (List ℕ)). printUnit m k ∷ ls) (ranges-snoc lows highs l h (omega arith))
+ranges-snoc [] [] [] mark low high paired many = refl
+ranges-snoc [] [] (h ∷ highs) mark low high paired many = absurd (omega arith)
+ranges-snoc [] (l ∷ lows) highs mark low high paired many = absurd (omega arith)
+ranges-snoc (m ∷ marks) [] highs mark low high paired many = absurd (omega arith)
+ranges-snoc (m ∷ marks) (l ∷ lows) [] mark low high paired many = absurd (omega arith)
+ranges-snoc (m ∷ marks) (l ∷ lows) (h ∷ highs) mark low high paired many =
+    ap (λ (lines : List (List ℕ)). rangeLine m l h ∷ lines) (ranges-snoc marks lows highs mark low high (omega arith) (omega arith))
 
 -- one group more is one line more
 groups-snoc : (groups : List Group) (g : Group) → map memberLine (groups ++ g ∷ []) ≡ map memberLine groups ++ memberLine g ∷ []
@@ -49,13 +57,23 @@ no-lines : (groups : List Group) → length groups ≡ 0 → map memberLine grou
 no-lines [] none = refl
 no-lines (g ∷ groups) none = absurd (omega arith)
 
+-- each unit of a job has a low, a high and a mark
+record Paired (job : Job) : Type 0 where
+  highs : length (job .highs) ≡ length (job .lows)
+  marks : length (job .marks) ≡ length (job .lows)
+
 -- a line that is taken is one line more of the job
-line-more : (job : Job) (l : Line) → length (job .highs) ≡ length (job .lows) → verdict job l ≡ 0
+line-more : (job : Job) (l : Line) → Paired job → verdict job l ≡ 0
     → jobLines (add job l) ≡ jobLines job ++ printLine l ∷ []
 unfolding add verdict printLine memberLine
 line-more job (unit u) paired good =
     let none = no-lines (job .groups) (unit-good _ _ u good .no-group) in
-    rw (none, ranges-snoc (job .lows) (job .highs) (u .low) (u .high) paired, append-nil (rangeLines (job .lows) (job .highs)))
+    rw (
+      none,
+      ranges-snoc (job .marks) (job .lows) (job .highs) (lineMark u) (lineLow u) (lineHigh u) (paired .highs) (paired .marks),
+      line-again u,
+      append-nil (rangeLines (job .marks) (job .lows) (job .highs)),
+    )
     (append-nil _)
 line-more job (group g) paired good =
     let numbers : List ℕ = g .first ∷ g .others in
@@ -64,16 +82,19 @@ line-more job (group g) paired good =
     let named-all = members-good (length (job .lows)) numbers (no-refusal .1) .all-named in
     let printed : memberLine (groupOf g) ≡ printLine (group g) = rw (numbers-again (length (job .lows)) numbers named-all) in
     rw (groups-snoc (job .groups) (groupOf g), printed)
-    (sym (append-assoc (rangeLines (job .lows) (job .highs)) (map memberLine (job .groups)) (printLine (group g) ∷ [])))
+    (sym (append-assoc (rangeLines (job .marks) (job .lows) (job .highs)) (map memberLine (job .groups)) (printLine (group g) ∷ [])))
 
--- it keeps lows and highs in pairs
-still-paired : (job : Job) (l : Line) → length (job .highs) ≡ length (job .lows) → length (add job l .highs) ≡ length (add job l .lows)
+-- it keeps them so
+still-paired : (job : Job) (l : Line) → Paired job → Paired (add job l)
 unfolding add
-still-paired job (unit u) paired = omega (arith, length-append (job .lows) (u .low ∷ []), length-append (job .highs) (u .high ∷ []))
-still-paired job (group g) paired = paired
+still-paired job (unit u) paired = record {
+  highs = omega (arith, length-append (job .lows) (lineLow u ∷ []), length-append (job .highs) (lineHigh u ∷ []), paired .highs);
+  marks = omega (arith, length-append (job .lows) (lineLow u ∷ []), length-append (job .marks) (lineMark u ∷ []), paired .marks);
+}
+still-paired job (group g) paired = record { highs = paired .highs; marks = paired .marks }
 
 -- the lines that are taken are those by which the job grows
-takes-lines : {job final : Job} {lines : List (List ℕ)} → length (job .highs) ≡ length (job .lows) → Takes job lines final
+takes-lines : {job final : Job} {lines : List (List ℕ)} → Paired job → Takes job lines final
     → jobLines final ≡ jobLines job ++ lines
 takes-lines {job} paired (Takes.none same) = ap jobLines (sym same) ∙ sym (append-nil (jobLines job))
 takes-lines {job} paired (Takes.also {lines = lines} l is good rest) =
@@ -86,7 +107,7 @@ takes-lines {job} paired (Takes.also {lines = lines} l is good rest) =
 pub accepted-text : (text : List ℕ) {found : Job} → readJob text ≡ accepted found → jobText found ≡ text
 unfolding jobText rangeLines
 accepted-text text {found} reads =
-    ap flatten (takes-lines refl (accepted-takes text found reads .takes)) ∙ joined-lines text
+    ap flatten (takes-lines (record { highs = refl; marks = refl }) (accepted-takes text found reads .takes)) ∙ joined-lines text
 
 -- the text of a sound job is accepted as that job
 pub text-accepted : (job : Job) → SoundJob job → readJob (jobText job) ≡ accepted job

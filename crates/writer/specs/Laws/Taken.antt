@@ -9,15 +9,16 @@ use lib.ListN.{length, getD, length-append, length-map}
 use Rattle.groups.specs.Memberships.{memberships}
 use Rattle.groups.specs.Laws.Storing.{memberships-snoc}
 use Rattle.job.specs.Accepting.{Takes}
-use Rattle.job.specs.Form.{UnitLine, GroupLine, unit, group, printLine}
+use Rattle.job.specs.Form.{UnitLine, range, shut, lineLow, lineHigh, lineMark, GroupLine, unit, group, printLine}
 use Rattle.job.specs.Job.{Job, mostGroups, mostMemberships, distinct, allNamed, groupOf, memberOf, membersVerdict, verdict, add, noLines}
 use Rattle.job.specs.Laws.Distinct.{distinct-members, different-distinct}
 use Rattle.job.specs.Laws.SameJob.{good-group}
-use Rattle.job.specs.Laws.Verdicts.{UnitGood, good-unit}
+use Rattle.job.specs.Laws.Verdicts.{good-unit}
 use Rattle.job.specs.Sound.{AcceptedGroup, AcceptedGroups, SoundJob}
 use Rattle.model.specs.Groups.{Group}
 use Rattle.model.specs.Laws.Tests.{both}
-use Rattle.model.specs.Shares.{Ranges, mostUnits}
+use Rattle.model.specs.Running.{Marked}
+use Rattle.model.specs.Shares.{Ranges, greatestShare, mostUnits}
 use Rattle.writer.specs.Texts.{rangeLines, memberLine, jobLines}
 
 -- the unit numbers of members below the count are named
@@ -33,28 +34,44 @@ numbers-back : (members : List ℕ) → map memberOf (map suc members) ≡ membe
 numbers-back [] = refl
 numbers-back (m ∷ members) = let same : memberOf (suc m) ≡ m = omega arith in rw (same, numbers-back members)
 
--- a job with these ranges behind its own
-abbrev grown : Job → List ℕ → List ℕ → Job
-grown job lows highs = record { lows = job .lows ++ lows; highs = job .highs ++ highs; groups = job .groups }
+-- a job with these units behind its own
+abbrev grown : Job → List ℕ → List ℕ → List ℕ → Job
+grown job marks lows highs =
+    record { lows = job .lows ++ lows; highs = job .highs ++ highs; marks = job .marks ++ marks; groups = job .groups }
 
--- the unit lines of ranges are taken, and what follows them after that
-takes-ranges : (job : Job) {lows highs : List ℕ} {lines : List (List ℕ)} {final : Job} → Ranges lows highs → length (job .groups) ≡ 0
-    → length (job .lows) + length lows ≤ mostUnits → Takes (grown job lows highs) lines final → Takes job (rangeLines lows highs ++ lines) final
-unfolding rangeLines printLine add verdict
-takes-ranges job Ranges.none none room rest = rw (append-nil (job .lows), append-nil (job .highs)) at rest
-takes-ranges job {lines = lines} {final = final} (Ranges.also {l} {h} {ls} {hs} ordered fits ranges) none room rest =
-    let line : UnitLine = record { low = l; high = h } in
-    let good : UnitGood (length (job .lows)) (length (job .groups)) line = record {
-      low-fits = omega arith;
-      high-fits = fits;
-      no-group = none;
-      room = omega arith;
-      ordered = ordered;
-    } in
-    let after : Takes (grown (add job (unit line)) ls hs) lines final =
-    rw (append-assoc (job .lows) (l ∷ []) ls, append-assoc (job .highs) (h ∷ []) hs) rest in
-    Takes.also (unit line) refl (good-unit good)
-    (takes-ranges (add job (unit line)) ranges none (omega (arith, length-append (job .lows) (l ∷ []))) after)
+-- a unit line has no refusal while there is room
+unit-taken : (job : Job) (l : UnitLine) → lineLow l ≤ lineHigh l → lineHigh l ≤ greatestShare → length (job .groups) ≡ 0
+    → length (job .lows) < mostUnits → verdict job (unit l) ≡ 0
+unfolding verdict
+unit-taken job l ordered fits none room =
+    good-unit (record { low-fits = omega arith; high-fits = fits; no-group = none; room = room; ordered = ordered })
+
+-- the first of the units behind a job's own, taken by its line
+one-more : (job : Job) (l : UnitLine) (marks lows highs : List ℕ)
+    → grown (add job (unit l)) marks lows highs ≡ grown job (lineMark l ∷ marks) (lineLow l ∷ lows) (lineHigh l ∷ highs)
+unfolding add
+one-more job l marks lows highs =
+    rw (
+      append-assoc (job .lows) (lineLow l ∷ []) lows,
+      append-assoc (job .highs) (lineHigh l ∷ []) highs,
+      append-assoc (job .marks) (lineMark l ∷ []) marks,
+    )
+
+-- the unit lines of ranges and marks are taken, and what follows them after that
+takes-ranges : (job : Job) {marks lows highs : List ℕ} {lines : List (List ℕ)} {final : Job} → Ranges lows highs → Marked marks lows highs
+    → length (job .groups) ≡ 0 → length (job .lows) + length lows ≤ mostUnits → Takes (grown job marks lows highs) lines final
+    → Takes job (rangeLines marks lows highs ++ lines) final
+unfolding rangeLines printLine add
+takes-ranges job Ranges.none Marked.none none room rest = rw (append-nil (job .lows), append-nil (job .highs), append-nil (job .marks)) at rest
+takes-ranges job {lines = lines} {final = final} (Ranges.also {l} {h} {ls} {hs} ordered fits ranges) (Marked.run {ms = ms} marked) none room rest =
+    let line : UnitLine = range l h in
+    let after : Takes (grown (add job (unit line)) ms ls hs) lines final = rw (one-more job line ms ls hs) rest in
+    Takes.also (unit line) refl (unit-taken job line ordered fits none (omega arith))
+    (takes-ranges (add job (unit line)) ranges marked none (omega (arith, length-append (job .lows) (l ∷ []))) after)
+takes-ranges job {lines = lines} {final = final} (Ranges.also {ls = ls} {hs = hs} ordered fits ranges) (Marked.shut {ms = ms} marked) none room rest =
+    let after : Takes (grown (add job (unit shut)) ms ls hs) lines final = rw (one-more job shut ms ls hs) rest in
+    Takes.also (unit shut) refl (unit-taken job shut ordered fits none (omega arith))
+    (takes-ranges (add job (unit shut)) ranges marked none (omega (arith, length-append (job .lows) (0 ∷ []))) after)
 
 -- the group line of a group with members
 pub record LineOf (g : Group) : Type 0 where
@@ -105,16 +122,16 @@ module _ (job : Job) (g : Group) (found : LineOf g) (good : AcceptedGroup (lengt
 -- the group lines of accepted groups are taken
 takes-groups : {units : ℕ} {groups : List Group} → AcceptedGroups units groups → (job : Job) → length (job .lows) ≡ units
     → length (job .groups) + length groups ≤ mostGroups → memberships (job .groups) + memberships groups ≤ mostMemberships
-    → Takes job (map memberLine groups) (record { lows = job .lows; highs = job .highs; groups = job .groups ++ groups })
+    → Takes job (map memberLine groups) (record { lows = job .lows; highs = job .highs; marks = job .marks; groups = job .groups ++ groups })
 unfolding memberships add
 takes-groups AcceptedGroups.none job counted room fits =
-    Takes.none (ap (λ (gs : List Group). record { lows = job .lows; highs = job .highs; groups = gs }) (sym (append-nil (job .groups))))
+    Takes.none (ap (λ (gs : List Group). record { lows = job .lows; highs = job .highs; marks = job .marks; groups = gs }) (sym (append-nil (job .groups))))
 takes-groups (AcceptedGroups.also {g} {gs} first others) job counted room fits =
     let at : LineOf g = line-of g (first .sound .some) in
     let grows : List Group = job .groups ++ g ∷ [] in
-    let after : Takes (add job (group (at .line))) (map memberLine gs) (record { lows = job .lows; highs = job .highs; groups = job .groups ++ g ∷ gs }) =
+    let after : Takes (add job (group (at .line))) (map memberLine gs) (record { lows = job .lows; highs = job .highs; marks = job .marks; groups = job .groups ++ g ∷ gs }) =
     rw (at .holds, ← append-assoc (job .groups) (g ∷ []) gs)
-    (takes-groups others (record { lows = job .lows; highs = job .highs; groups = grows }) counted
+    (takes-groups others (record { lows = job .lows; highs = job .highs; marks = job .marks; groups = grows }) counted
     (omega (arith, length-append (job .groups) (g ∷ [])))
     (omega (arith, memberships-snoc (job .groups) g))) in
     Takes.also (group (at .line)) (at .printed) (line-good job g at (rw counted first) (omega arith) (omega arith)) after
@@ -123,7 +140,7 @@ takes-groups (AcceptedGroups.also {g} {gs} first others) job counted room fits =
 pub takes-job : (job : Job) → SoundJob job → Takes noLines (jobLines job) job
 unfolding memberships
 takes-job job sound =
-    takes-ranges noLines (sound .built .ranges) refl (omega (arith, sound .built .few-units))
-    (takes-groups (sound .built .groups-sound) (record { lows = job .lows; highs = job .highs; groups = [] }) refl
+    takes-ranges noLines (sound .built .ranges) (sound .built .marked) refl (omega (arith, sound .built .few-units))
+    (takes-groups (sound .built .groups-sound) (record { lows = job .lows; highs = job .highs; marks = job .marks; groups = [] }) refl
     (omega (arith, sound .built .few-groups))
     (omega (arith, sound .built .few-memberships)))

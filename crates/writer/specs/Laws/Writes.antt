@@ -52,15 +52,15 @@ module _ (job : Job) (rest : List ℕ) {page : List ℕ} {size : ℕ} (counted :
         let (moved, leaves) = from-start (rw page-text at (page-room fits)) (rw page-text at wrote) in
         rw (leaves, counted) (text-written job buffer (omega (arith, counted)))
 
-module _ (groups : List Group) (units : ℕ) (lows highs buffer : List ℕ) where
+module _ (marks : List ℕ) (groups : List Group) (units : ℕ) (lows highs buffer : List ℕ) where
   -- a table that fails the checks is refused, and the buffer holds what it held
-  pub over-failed : (reason : Refusal) → checkTable units lows highs (8 * units) ≡ Failed reason
-      → writtenText (Refused reason) buffer ≡ writeOver groups units lows highs buffer
+  pub over-failed : (reason : Refusal) → checkTable marks units lows highs (8 * units) ≡ Failed reason
+      → writtenText (Refused reason) buffer ≡ writeOver marks groups units lows highs buffer
   unfolding writeOver
   over-failed reason fails = rw fails
 
   -- one that passes them is written
-  pub over-passed : checkTable units lows highs (8 * units) ≡ Passed
-      → writeJob (jobWith groups (firstOf units lows highs)) buffer ≡ writeOver groups units lows highs buffer
+  pub over-passed : checkTable marks units lows highs (8 * units) ≡ Passed
+      → writeJob (jobWith marks groups (firstOf units lows highs)) buffer ≡ writeOver marks groups units lows highs buffer
   unfolding writeOver
   over-passed passes = rw passes
