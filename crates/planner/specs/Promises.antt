@@ -26,23 +26,23 @@ abbrev pub figuresIn : ForeignLevelled → Figures
 figuresIn answer = record { deviation = record { 0 = answer .deviation .value }; spread = record { 0 = answer .spread .value } }
 
 -- what `danivomel_level` promises of its answer and of the plan list
-pub record ForeignLevelPromise (lows highs : List ℕ) (total : ℕ) (plan : List ℕ) (answer : ForeignLevelled) (after : List ℕ) : Type 0 where
+pub record ForeignLevelPromise (lows highs marks : List ℕ) (total : ℕ) (plan : List ℕ) (answer : ForeignLevelled) (after : List ℕ) : Type 0 where
   -- refusal number 0: demand 2, with the level and the figures answered
   pub accepted : answer .refusal .number ≡ 0
-      → LevelPromise lows highs total (answer .level) (figuresIn answer) plan after
+      → LevelPromise lows highs marks total (answer .level) (figuresIn answer) plan after
   -- another number: 01's words for it hold, and the plan list is as it was
   pub refused : 1 ≤ answer .refusal .number
-      → LevelFinding lows highs total (length plan) (level.Refused (refusalOf (answer .refusal))) × (after ≡ plan)
+      → LevelFinding lows highs marks total (length plan) (level.Refused (refusalOf (answer .refusal))) × (after ≡ plan)
   -- it is given wherever they hold
-  pub given : {words : Levelling} → LevelFinding lows highs total (length plan) words → answer ≡ foreignLevelled words
+  pub given : {words : Levelling} → LevelFinding lows highs marks total (length plan) words → answer ≡ foreignLevelled words
 
 -- what `danivomel_narrow` promises of its answer and of both lists
-pub record ForeignNarrowPromise (lows highs : List ℕ) (total : ℕ) (limits : ForeignLimits) (answer : ForeignRefusal)
+pub record ForeignNarrowPromise (lows highs marks : List ℕ) (total : ℕ) (limits : ForeignLimits) (answer : ForeignRefusal)
     (lowsAfter highsAfter : List ℕ) : Type 0 where
   -- number 0: demand 2
-  pub accepted : answer .number ≡ 0 → NarrowPromise lows highs total (foreignLimits limits) lowsAfter highsAfter
+  pub accepted : answer .number ≡ 0 → NarrowPromise lows highs marks total (foreignLimits limits) lowsAfter highsAfter
   -- another number: 01's words for it hold, and the lists are as they were
   pub refused : 1 ≤ answer .number
-      → NarrowFinding lows highs total (foreignLimits limits) (narrow.Refused (refusalOf answer)) × (lowsAfter ≡ lows) × (highsAfter ≡ highs)
+      → NarrowFinding lows highs marks total (foreignLimits limits) (narrow.Refused (refusalOf answer)) × (lowsAfter ≡ lows) × (highsAfter ≡ highs)
   -- it is given wherever they hold
-  pub given : {words : Narrowing} → NarrowFinding lows highs total (foreignLimits limits) words → answer ≡ foreignNarrowed words
+  pub given : {words : Narrowing} → NarrowFinding lows highs marks total (foreignLimits limits) words → answer ≡ foreignNarrowed words

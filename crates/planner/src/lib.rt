@@ -7,7 +7,7 @@ use model::Refusal;
 ghost use mathlib.Core.Path.{_≡_};
 ghost use lib.ListN.{length};
 ghost use Rattle.model.specs.Levels.{levelled};
-ghost use Rattle.model.specs.Plans.{narrowedLows, narrowedHighs};
+ghost use Rattle.model.specs.Running.{markedLows, markedHighs};
 ghost use Rattle.group.specs.Levelling.{levelling, planAfter};
 ghost use Rattle.group.specs.Narrowing.{narrowing, listAfter};
 ghost use Rattle.planner.specs.Foreign.{foreignRefusal, foreignLevelled, foreignNarrowed, foreignLimit, foreignLimits};
@@ -128,13 +128,14 @@ fn levelling_out(answer: Levelling) -> ForeignLevelled
 pub extern "C" fn danivomel_level(
     lows: &[u64],
     highs: &[u64],
+    marks: &[u64],
     total: u64,
     plan: &mut [u64],
 ) -> ForeignLevelled
-    ensures { λ r. ⌜ r ≡ foreignLevelled (levelling (now (lows .entry)) (now (highs .entry)) total (length (now (plan .entry)))) ⌝ }
-    ensures { λ _. ⌜ now (plan .exit) ≡ planAfter (levelling (now (lows .entry)) (now (highs .entry)) total (length (now (plan .entry)))) (levelled (now (lows .entry)) (now (highs .entry)) total) (now (plan .entry)) ⌝ }
+    ensures { λ r. ⌜ r ≡ foreignLevelled (levelling (now (lows .entry)) (now (highs .entry)) (now (marks .entry)) total (length (now (plan .entry)))) ⌝ }
+    ensures { λ _. ⌜ now (plan .exit) ≡ planAfter (levelling (now (lows .entry)) (now (highs .entry)) (now (marks .entry)) total (length (now (plan .entry)))) (levelled (now (lows .entry)) (now (highs .entry)) total) (now (plan .entry)) ⌝ }
 {
-    let answer = group::level(lows, highs, total, plan);
+    let answer = group::level(lows, highs, marks, total, plan);
     levelling_out(answer)
 }
 
@@ -166,12 +167,13 @@ fn narrowing_out(answer: Narrowing) -> ForeignRefusal
 pub extern "C" fn danivomel_narrow(
     lows: &mut [u64],
     highs: &mut [u64],
+    marks: &[u64],
     total: u64,
     limits: ForeignLimits,
 ) -> ForeignRefusal
-    ensures { λ r. ⌜ r ≡ foreignNarrowed (narrowing (now (lows .entry)) (now (highs .entry)) total (foreignLimits limits)) ⌝ }
-    ensures { λ _. ⌜ now (lows .exit) ≡ listAfter (narrowing (now (lows .entry)) (now (highs .entry)) total (foreignLimits limits)) (narrowedLows (now (lows .entry)) (now (highs .entry)) total (foreignLimits limits)) (now (lows .entry)) ⌝ }
-    ensures { λ _. ⌜ now (highs .exit) ≡ listAfter (narrowing (now (lows .entry)) (now (highs .entry)) total (foreignLimits limits)) (narrowedHighs (now (lows .entry)) (now (highs .entry)) total (foreignLimits limits)) (now (highs .entry)) ⌝ }
+    ensures { λ r. ⌜ r ≡ foreignNarrowed (narrowing (now (lows .entry)) (now (highs .entry)) (now (marks .entry)) total (foreignLimits limits)) ⌝ }
+    ensures { λ _. ⌜ now (lows .exit) ≡ listAfter (narrowing (now (lows .entry)) (now (highs .entry)) (now (marks .entry)) total (foreignLimits limits)) (markedLows (now (marks .entry)) (now (lows .entry)) (now (highs .entry)) total (foreignLimits limits)) (now (lows .entry)) ⌝ }
+    ensures { λ _. ⌜ now (highs .exit) ≡ listAfter (narrowing (now (lows .entry)) (now (highs .entry)) (now (marks .entry)) total (foreignLimits limits)) (markedHighs (now (marks .entry)) (now (lows .entry)) (now (highs .entry)) total (foreignLimits limits)) (now (highs .entry)) ⌝ }
 {
     let deviation = limits.deviation;
     let spread = limits.spread;
@@ -179,6 +181,6 @@ pub extern "C" fn danivomel_narrow(
         deviation: limit_in(deviation),
         spread: limit_in(spread),
     };
-    let answer = group::narrow(lows, highs, total, both);
+    let answer = group::narrow(lows, highs, marks, total, both);
     narrowing_out(answer)
 }

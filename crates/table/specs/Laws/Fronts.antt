@@ -21,6 +21,7 @@ use Rattle.report.specs.Calls.{Reported, reported, jobOf, reportBy, reportSettl
 use Rattle.report.specs.declared.Reporting.the-variants as reporting
 use Rattle.works.specs.Answers.{answerOf, tableAfter}
 use Rattle.works.specs.Calls.{Settlement, settlement, checkTable, settledAfter, leaving, settleJob, settleText}
+use Rattle.works.specs.Resting.{runningGroups}
 use Rattle.works.specs.Settling as works
 use Rattle.works.specs.Tables.{Table, tableOf}
 use Rattle.works.specs.declared.Settling.{Settling}
@@ -98,16 +99,16 @@ module _ (m : ℕ) (lows highs : List ℕ) where
       let left : Table = tableAfter outcome (tableOf (take-take units m lows h i) (take-take units m highs h i)) in
       settlement (answerOf outcome) (write-front units m (left .lows) lows h i) (write-front units m (left .highs) highs h i)
 
-  check-front : (units scratch : ℕ) → units ≤ m → checkTable units (take m lows) (take m highs) scratch ≡ checkTable units lows highs scratch
+  check-front : (marks : List ℕ) (units scratch : ℕ) → units ≤ m → checkTable marks units (take m lows) (take m highs) scratch ≡ checkTable marks units lows highs scratch
   unfolding checkTable
-  check-front units scratch h = rw (room-front units m lows h, room-front units m highs h, take-take units m lows h, take-take units m highs h) refl
+  check-front marks units scratch h = rw (room-front units m lows h, room-front units m highs h, take-take units m lows h, take-take units m highs h) refl
 
-  job-front : (groups : List Group) (units scratch : ℕ) → units ≤ m → longer (settleJob groups units (take m lows) (take m highs) scratch) ≡ settleJob groups units lows highs scratch
+  job-front : (marks : List ℕ) (groups : List Group) (units scratch : ℕ) → units ≤ m → longer (settleJob marks groups units (take m lows) (take m highs) scratch) ≡ settleJob marks groups units lows highs scratch
   unfolding settleJob
-  job-front groups units scratch h =
-      (λ i. longer (settledAfter (check-front units scratch h i) (take m lows) (take m highs)
-      (leaving (works.settle groups (tableOf (take-take units m lows h i) (take-take units m highs h i))) units (take m lows) (take m highs))))
-      ∙ after-front (checkTable units lows highs scratch) (works.settle groups (tableOf (take units lows) (take units highs))) units h
+  job-front marks groups units scratch h =
+      (λ i. longer (settledAfter (check-front marks units scratch h i) (take m lows) (take m highs)
+      (leaving (works.settle (runningGroups marks groups) (tableOf (take-take units m lows h i) (take-take units m highs h i))) units (take m lows) (take m highs))))
+      ∙ after-front (checkTable marks units lows highs scratch) (works.settle (runningGroups marks groups) (tableOf (take units lows) (take units highs))) units h
 
   -- settling a text looks at the first m entries alone
   text-front : (text : List ℕ) (scratch : ℕ) → FewIn m (readJob text) → longer (settleText text (take m lows) (take m highs) scratch) ≡ settleText text lows highs scratch
@@ -115,18 +116,18 @@ module _ (m : ℕ) (lows highs : List ℕ) where
   text-front text scratch few = by-outcome (readJob text) refl few
     where
       by-outcome : (o : JobOrRefusal) → readJob text ≡ o → FewIn m o → longer (settleText text (take m lows) (take m highs) scratch) ≡ settleText text lows highs scratch
-      by-outcome (accepted job) e few = rw (settleText, e) (job-front (job .groups) (length (job .lows)) scratch few)
+      by-outcome (accepted job) e few = rw (settleText, e) (job-front (job .marks) (job .groups) (length (job .lows)) scratch few)
       by-outcome (refused r) e few = rw (settleText, e, take-append-drop m lows, take-append-drop m highs) refl
 
   -- a report on the first m entries, with the entries past them
   abbrev wider : Reported → Reported
   wider r = reported (r .answer) (r .lows ++ drop m lows) (r .highs ++ drop m highs) (r .buffer)
 
-  by-front : (groups : List Group) (units : ℕ) (answer : Settling) (ls hs buffer : List ℕ) → units ≤ m → let r : Reported = reportBy groups units answer ls hs buffer in
-      length (r .lows) ≡ length (take m lows) → length (r .highs) ≡ length (take m highs) → wider r ≡ reportBy groups units answer (ls ++ drop m lows) (hs ++ drop m highs) buffer
-  by-front groups units (settling.Settled passes) ls hs buffer h p q = rw (take-front units m ls lows h p, take-front units m hs highs h q) refl
-  by-front groups units (settling.NoPlan number place passes) ls hs buffer h p q = refl
-  by-front groups units (settling.Refused refusal) ls hs buffer h p q = refl
+  by-front : (marks : List ℕ) (groups : List Group) (units : ℕ) (answer : Settling) (ls hs buffer : List ℕ) → units ≤ m → let r : Reported = reportBy marks groups units answer ls hs buffer in
+      length (r .lows) ≡ length (take m lows) → length (r .highs) ≡ length (take m highs) → wider r ≡ reportBy marks groups units answer (ls ++ drop m lows) (hs ++ drop m highs) buffer
+  by-front marks groups units (settling.Settled passes) ls hs buffer h p q = rw (take-front units m ls lows h p, take-front units m hs highs h q) refl
+  by-front marks groups units (settling.NoPlan number place passes) ls hs buffer h p q = refl
+  by-front marks groups units (settling.Refused refusal) ls hs buffer h p q = refl
 
   -- reporting a text looks at the first m entries alone, if it leaves as many
   report-front : (text : List ℕ) (scratch : ℕ) (buffer : List ℕ) → FewIn m (readJob text) → let r : Reported = reportText text (take m lows) (take m highs) scratch buffer in
@@ -145,14 +146,14 @@ module _ (m : ℕ) (lows highs : List ℕ) where
       short ls hs = reported (reporting.Refused (refusal 1 0)) ls hs buffer
 
       settled : List ℕ → List ℕ → Reported
-      settled ls hs = reportSettled (found .groups) (length (found .lows)) (settleText text ls hs scratch) buffer
+      settled ls hs = reportSettled (found .marks) (found .groups) (length (found .lows)) (settleText text ls hs scratch) buffer
 
       by-room : (fits : Bool) → let r : Reported = pick fits (settled (take m lows) (take m highs)) (short (take m lows) (take m highs)) in
           length (r .lows) ≡ length (take m lows) → length (r .highs) ≡ length (take m highs) → wider r ≡ pick fits (settled lows highs) (short lows highs)
       by-room true p q =
           let s : Settlement = settleText text (take m lows) (take m highs) scratch in
-          by-front (found .groups) (length (found .lows)) (s .answer) (s .lows) (s .highs) buffer (few-found (readJob text) few) p q
-          ∙ ap (λ (z : Settlement). reportSettled (found .groups) (length (found .lows)) z buffer) (text-front text scratch few)
+          by-front (found .marks) (found .groups) (length (found .lows)) (s .answer) (s .lows) (s .highs) buffer (few-found (readJob text) few) p q
+          ∙ ap (λ (z : Settlement). reportSettled (found .marks) (found .groups) (length (found .lows)) z buffer) (text-front text scratch few)
       by-room false p q = rw (take-append-drop m lows, take-append-drop m highs) refl
 
   -- and so does reading one
@@ -170,16 +171,16 @@ module _ (m : ℕ) (lows highs : List ℕ) where
   highs-front (refused r) few = take-append-drop m highs
 
   -- and so does writing one
-  over-front : (groups : List Group) (units : ℕ) (buffer : List ℕ) → units ≤ m → writeOver groups units (take m lows) (take m highs) buffer ≡ writeOver groups units lows highs buffer
+  over-front : (marks : List ℕ) (groups : List Group) (units : ℕ) (buffer : List ℕ) → units ≤ m → writeOver marks groups units (take m lows) (take m highs) buffer ≡ writeOver marks groups units lows highs buffer
   unfolding writeOver
-  over-front groups units buffer h = rw (check-front units (8 * units) h, take-take units m lows h, take-take units m highs h) refl
+  over-front marks groups units buffer h = rw (check-front marks units (8 * units) h, take-take units m lows h, take-take units m highs h) refl
 
   written-front : (text buffer : List ℕ) → FewIn m (readJob text) → writeText text (take m lows) (take m highs) buffer ≡ writeText text lows highs buffer
   unfolding writeText
   written-front text buffer few = by-outcome (readJob text) refl few
     where
       by-outcome : (o : JobOrRefusal) → readJob text ≡ o → FewIn m o → writeText text (take m lows) (take m highs) buffer ≡ writeText text lows highs buffer
-      by-outcome (accepted job) e few = rw (writeText, e) (over-front (job .groups) (length (job .lows)) buffer few)
+      by-outcome (accepted job) e few = rw (writeText, e) (over-front (job .marks) (job .groups) (length (job .lows)) buffer few)
       by-outcome (refused r) e few = rw (writeText, e) refl
 
 -- the table that bounds leave
