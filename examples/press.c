@@ -18,17 +18,18 @@ static int refused(danivomel_refusal refusal) {
 int main(void) {
     uint64_t lows[UNITS] = {8, 4, 1, 3};
     uint64_t highs[UNITS] = {10, 7, 5, 4};
+    const uint64_t marks[UNITS] = {DANIVOMEL_RUNNING, DANIVOMEL_RUNNING, DANIVOMEL_RUNNING, DANIVOMEL_RUNNING};
     uint64_t plan[UNITS];
 
     /* The stand level: no limits; lows and highs stay as they are. */
-    danivomel_levelled levelled = danivomel_level(lows, UNITS, highs, UNITS, TOTAL, plan, UNITS);
+    danivomel_levelled levelled = danivomel_level(lows, UNITS, highs, UNITS, marks, UNITS, TOTAL, plan, UNITS);
     if (levelled.refusal.number != DANIVOMEL_DONE) {
         return refused(levelled.refusal);
     }
 
     /* The press level: 7 copies off the mean in all is a deviation of 4 * 7; lows and highs are narrowed. */
     danivomel_limits limits = {.deviation = {.any = false, .at_most = 28}, .spread = {.any = true}};
-    danivomel_refusal refusal = danivomel_narrow(lows, UNITS, highs, UNITS, TOTAL, limits);
+    danivomel_refusal refusal = danivomel_narrow(lows, UNITS, highs, UNITS, marks, UNITS, TOTAL, limits);
     if (refusal.number != DANIVOMEL_DONE) {
         return refused(refusal);
     }

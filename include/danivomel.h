@@ -6,6 +6,11 @@
  * and danivomel_report settle many groups over shared units (works). danivomel_write writes a job with the ranges of a
  * table as a job text, so that a settled job can be handed on.
  *
+ * A unit that is off the run can be shut: a line (shut) of a job text in the place of its unit line, or the mark 1 in
+ * calls on lists. It keeps its number and its place in groups, its range is 0 to 0 and its share 0, and the figures of
+ * a group leave it out: n is the number of running members, and the sums are theirs alone. A unit with the range 0 to 0
+ * that is not shut runs, and counts.
+ *
  * A list is a pointer and a count, and so is a table, a list of ranges. Every pointer must be valid for its count of
  * items, aligned and not null, also where the count is 0; a list that a call writes must overlap no other list of the
  * call. Nothing else is asked: any counts and any numbers are taken, and what the specification does not allow is
@@ -36,17 +41,24 @@ enum {
     DANIVOMEL_BAD_LISTS = 1,           /* a list, table, scratch or buffer of a wrong length, see each call; place 0 */
     DANIVOMEL_TEXT_TOO_LONG = 2,       /* text over 65,536 bytes; place 0 */
     DANIVOMEL_NOT_IN_FORM = 3,         /* line not in the form; place the line */
-    DANIVOMEL_BEYOND_RANGE = 4,        /* number beyond its range; place the line, the unit, or 0 for total and limits
-                                          of a group on lists */
-    DANIVOMEL_UNIT_AFTER_GROUP = 5,    /* unit line after a group line; place the line */
+    DANIVOMEL_BEYOND_RANGE = 4,        /* number beyond its range, a mark too; place the line, the unit, or 0 for total
+                                          and limits of a group on lists */
+    DANIVOMEL_UNIT_AFTER_GROUP = 5,    /* unit line, or (shut), after a group line; place the line */
     DANIVOMEL_TOO_MANY = 6,            /* over 256 units, 64 groups or 4,096 memberships; place the line */
-    DANIVOMEL_LOW_ABOVE_HIGH = 7,      /* low above high; place the line or the unit */
+    DANIVOMEL_LOW_ABOVE_HIGH = 7,      /* low above high, or a shut unit's range other than 0 to 0; place the line, or
+                                          the unit of a table or of lists; at a shut unit always the unit */
     DANIVOMEL_NO_SUCH_UNIT = 8,        /* unit number 0 or above the count; place the line */
     DANIVOMEL_UNIT_TWICE = 9,          /* a unit twice in a group; place the line */
-    DANIVOMEL_NO_UNITS = 10,           /* no unit line; place 0 */
+    DANIVOMEL_NO_UNITS = 10,           /* no unit line and no (shut); place 0 */
     DANIVOMEL_TOTAL_OUT_OF_REACH = 11, /* lows add up to more than the total, or highs to less; place the group of the
                                           text, or 0 for a group on lists */
     DANIVOMEL_NONE_WITHIN_LIMITS = 12  /* shares exist, none within the limits; place as for 11 */
+};
+
+/* The marks of a group's members in calls on lists. */
+enum {
+    DANIVOMEL_RUNNING = 0,
+    DANIVOMEL_SHUT = 1 /* off the run: the member's range is 0 to 0, and the figures leave it out */
 };
 
 /*
@@ -58,12 +70,12 @@ typedef struct {
     uint64_t place;
 } danivomel_refusal;
 
-/* The sum of |n * share - total| over the n shares. Divided by n it is in copies. */
+/* The sum of |n * share - total| over the n running members; 0 where all are shut. Divided by n it is in copies. */
 typedef struct {
     uint64_t value;
 } danivomel_deviation;
 
-/* n * (sum of squared shares) - total * total. */
+/* n * (sum of squared shares) - total * total over the n running members; 0 where all are shut. */
 typedef struct {
     uint64_t value;
 } danivomel_spread;
@@ -82,7 +94,7 @@ typedef struct {
 
 /*
  * What levelling answers. On every refusal (1, 4, 7, 11) level, deviation and spread are 0; on success each of them can
- * be 0 too. The level is 1,000,000 exactly where every share is its unit's high.
+ * be 0 too. The level is 1,000,000 exactly where every share is its unit's high, and so where all members are shut.
  */
 typedef struct {
     danivomel_refusal refusal;
@@ -94,26 +106,29 @@ typedef struct {
 /*
  * Levels a group: the most even shares within lows and highs (0 to 1,000,000) that add up to the total (0 to
  * 256,000,000), written to the plan. No other such shares have a lesser deviation or spread. A plan may be longer than
- * the group.
- * Refuses, in this order: 1 for lows and highs empty, of unequal length or over 256, or a plan shorter than they are;
- * 4 for the units in order; 4 for the total, place 0; 7 for the units in order; 11, place 0.
+ * the group. The marks are a number for each member, DANIVOMEL_RUNNING or DANIVOMEL_SHUT; a shut member's low and high
+ * are 0, and so is its share.
+ * Refuses, in this order: 1 for lows, highs and marks empty, of unequal length or over 256, or a plan shorter than they
+ * are; 4 for low, high and mark of the units in order; 4 for the total, place 0; 7 for the units in order; 11, place 0.
  */
 danivomel_levelled danivomel_level(
     const uint64_t *lows, size_t lows_count,
     const uint64_t *highs, size_t highs_count,
+    const uint64_t *marks, size_t marks_count,
     uint64_t total,
     uint64_t *plan, size_t plan_count);
 
 /*
  * Narrows a group in place: afterwards lows and highs hold, for each member, exactly the values that some plan takes,
  * where a plan is a choice of shares within the lows and highs at the call that add up to the total and are within
- * both limits.
- * Refuses, in this order: 1 for lows and highs empty, of unequal length or over 256; 4 for the units in order; 4 for
- * total and limits, place 0; 7 for the units in order; 11; 12, both with place 0.
+ * both limits. The marks are as for levelling, and are only read; a shut member's range stays 0 to 0.
+ * Refuses, in this order: 1 for lows, highs and marks empty, of unequal length or over 256; 4 for low, high and mark of
+ * the units in order; 4 for total and limits, place 0; 7 for the units in order; 11; 12, both with place 0.
  */
 danivomel_refusal danivomel_narrow(
     uint64_t *lows, size_t lows_count,
     uint64_t *highs, size_t highs_count,
+    const uint64_t *marks, size_t marks_count,
     uint64_t total,
     danivomel_limits limits);
 
@@ -137,7 +152,7 @@ typedef struct {
 } danivomel_counts;
 
 /*
- * Reads a job text into a table: afterwards the table begins with the ranges of the unit lines.
+ * Reads a job text into a table: afterwards the table begins with the ranges of the unit lines, 0 to 0 for (shut).
  * Refuses, in this order: 2; the first bad line with the lowest of 3 to 9; 10; 1 for a table with fewer entries than
  * the job has units. 256 entries are always enough.
  */
@@ -157,11 +172,12 @@ typedef struct {
 /*
  * Settles a table under the groups of a job text: opens with the ranges that the table holds, and leaves the greatest
  * ranges inside them in which each value is taken, in each of its unit's groups, by a plan drawn from them. The unit
- * lines are checked and counted, but their ranges are not used: danivomel_read puts those into a table.
+ * lines are checked and counted, but their ranges are not used: danivomel_read puts those into a table. Which units are
+ * shut the text alone says, and the table must have 0 to 0 for each of them.
  * The scratch has at least 8 numbers a unit; what it held changes nothing, and it holds anything afterwards.
  * Refuses, in this order: as reading up to 10; 1 for a table with fewer entries than the job has units, or a scratch
- * with fewer than 8 numbers a unit; 4, then 7 for the ranges of the table, place the first such unit; 11 and 12, place
- * the group, where no such ranges exist.
+ * with fewer than 8 numbers a unit; 4, then 7 for the ranges of the table (7 where a low is above its high, or a shut
+ * unit's range is not 0 to 0), place the first such unit; 11 and 12, place the group, where no such ranges exist.
  */
 danivomel_settled danivomel_settle(
     const uint8_t *text, size_t text_count,
@@ -189,19 +205,19 @@ danivomel_reported danivomel_report(
     uint64_t *scratch, size_t scratch_count,
     uint8_t *buffer, size_t buffer_count);
 
-/* What writing answers. On every refusal (1 to 10) the length is 0. On success it is 11 to 26,752. */
+/* What writing answers. On every refusal (1 to 10) the length is 0. On success it is 7 to 26,752. */
 typedef struct {
     danivomel_refusal refusal;
     size_t length;
 } danivomel_written;
 
 /*
- * Writes a job as a job text to the start of the buffer: the unit lines hold the ranges of the table, the group lines
- * are those of the text. What is written reads as the same job with the table's ranges; a text with the table that its
- * reading filled is written as the same bytes; and a settled job that was written settles in one pass. The table is not
- * changed, and no scratch is needed.
- * Refuses, in this order: as reading, table included; 4, then 7 for the ranges of the table, place the first such unit;
- * 1 for a buffer with fewer bytes than are to be written. 26,752 bytes are always enough.
+ * Writes a job as a job text to the start of the buffer: the unit lines hold the ranges of the table, those of shut
+ * units stay (shut), and the group lines are those of the text. What is written reads as the same job with the table's
+ * ranges; a text with the table that its reading filled is written as the same bytes; and a settled job that was written
+ * settles in one pass. The table is not changed, and no scratch is needed.
+ * Refuses, in this order: as reading, table included; 4, then 7 for the ranges of the table, as settling does; 1 for a
+ * buffer with fewer bytes than are to be written. 26,752 bytes are always enough.
  */
 danivomel_written danivomel_write(
     const uint8_t *text, size_t text_count,

@@ -5,7 +5,7 @@ use danivomel_tests::cases::groups::GroupCase;
 use danivomel_tests::cases::jobs::print_job;
 use danivomel_tests::independent::level::{clamp, figures};
 use danivomel_tests::independent::reader::{Group, Job};
-use danivomel_tests::independent::{self, GREATEST_DEVIATION, GREATEST_SPREAD};
+use danivomel_tests::independent::{self, GREATEST_DEVIATION, GREATEST_SPREAD, MOST_UNITS, RUNNING, SHUT};
 use danivomel_tests::random::Random;
 
 /// The seed of everything that is drawn.
@@ -41,9 +41,10 @@ impl Tightness {
     /// Limits for a group's shares.
     fn limits(self, lows: &[u64], highs: &[u64], ordinary: &[u64]) -> Limits {
         let total = ordinary.iter().sum();
-        let mut plan = vec![0; lows.len()];
-        let least = independent::level(lows, highs, total, &mut plan).expect("ordinary shares are in the ranges");
-        let (deviation, spread) = figures(ordinary, total);
+        let (mut plan, marks) = (vec![0; lows.len()], vec![RUNNING; lows.len()]);
+        let least =
+            independent::level(lows, highs, &marks, total, &mut plan).expect("ordinary shares are in the ranges");
+        let (deviation, spread) = figures(ordinary, &marks, total);
         Limits {
             deviation: self.limit(lows.len(), least.deviation.0, deviation.0, GREATEST_DEVIATION),
             spread: self.limit(lows.len(), least.spread.0, spread.0, GREATEST_SPREAD),
@@ -69,7 +70,7 @@ pub fn group(random: &mut Random, n: usize, greatest: u64, tightness: Tightness)
     }
     assert_eq!(left, 0, "the ranges are wide enough for a total that n divides");
     let limits = tightness.limits(&lows, &highs, &ordinary);
-    GroupCase { lows, highs, total: ordinary.iter().sum(), limits }
+    GroupCase { lows, highs, marks: vec![RUNNING; n], total: ordinary.iter().sum(), limits }
 }
 
 /// Some groups of one size: fewer where they are large.
@@ -79,13 +80,58 @@ pub fn groups_of(n: usize, greatest: u64, tightness: Tightness) -> Vec<GroupCase
     (0..count).map(|_| group(&mut random, n, greatest, tightness)).collect()
 }
 
-/// A job of so many groups of n members, over half as many units as there are memberships, at most 256. All groups suit
-/// one choice of nearly even shares, so that it settles, and their limits are near that choice, so that ranges move.
+/// Such groups with a shut member between each two running ones and the next two: a third of n members is shut.
+pub fn shut_groups(n: usize, greatest: u64, tightness: Tightness) -> Vec<GroupCase> {
+    let mut groups = groups_of(n - n / 3, greatest, tightness);
+    for case in &mut groups {
+        case.lows = spaced(&case.lows, |_| 0);
+        case.highs = spaced(&case.highs, |_| 0);
+        case.marks = spaced(&case.marks, |_| SHUT);
+    }
+    groups
+}
+
+/// A list with one more item between each two and the next two, which is told by how many of them come before it.
+fn spaced<T: Copy>(list: &[T], more: impl Fn(usize) -> T) -> Vec<T> {
+    let mut all = vec![];
+    for (index, two) in list.chunks(2).enumerate() {
+        if index > 0 {
+            all.push(more(index - 1));
+        }
+        all.extend_from_slice(two);
+    }
+    all
+}
+
+/// A job of so many groups of n members, over half as many units as there are memberships, at most 256.
 pub fn job(groups: usize, n: usize) -> Job {
+    job_over(groups, n, MOST_UNITS)
+}
+
+/// A job of so many groups of n members a third of which is shut, and the same without the shut units.
+pub fn shut_job(groups: usize, n: usize) -> (Job, Job) {
+    let rest = job_over(groups, n - n / 3, MOST_UNITS - MOST_UNITS / 3);
+    let shut_unit = |index: usize| 3 * index + 2;
+    let mut job = Job {
+        lows: spaced(&rest.lows, |_| 0),
+        highs: spaced(&rest.highs, |_| 0),
+        marks: spaced(&rest.marks, |_| SHUT),
+        groups: rest.groups.clone(),
+    };
+    for group in &mut job.groups {
+        let members: Vec<usize> = group.members.iter().map(|unit| unit + unit / 2).collect();
+        group.members = spaced(&members, shut_unit);
+    }
+    (job, rest)
+}
+
+/// A job over so many units at most. All groups suit one choice of nearly even shares, so that it settles, and their
+/// limits are near that choice, so that ranges move.
+fn job_over(groups: usize, n: usize, most: usize) -> Job {
     let mut random = Random::new(SEED + (1_000 * groups + n) as u64);
-    let units = (groups * n / 2).clamp(n, 256);
+    let units = (groups * n / 2).clamp(n, most);
     let (middle, apart) = (COMMON / 2, COMMON / (2 * n as u64));
-    let mut job = Job::default();
+    let mut job = Job { marks: vec![RUNNING; units], ..Job::default() };
     let mut choice = vec![];
     for _ in 0..units {
         let (first, second) = (random.between(0, COMMON), random.between(0, COMMON));
@@ -105,7 +151,7 @@ pub fn job(groups: usize, n: usize) -> Job {
 fn group_of_choice(random: &mut Random, choice: &[u64], members: &[usize]) -> Group {
     let shares: Vec<u64> = members.iter().map(|&unit| choice[unit]).collect();
     let total = shares.iter().sum();
-    let (deviation, spread) = figures(&shares, total);
+    let (deviation, spread) = figures(&shares, &vec![RUNNING; shares.len()], total);
     let mut limits = Limits { deviation: Limit::AtMost(deviation.0), spread: Limit::AtMost(spread.0) };
     match random.between(0, 3) {
         0 => limits.deviation = Limit::Any,
@@ -118,7 +164,8 @@ fn group_of_choice(random: &mut Random, choice: &[u64], members: &[usize]) -> Gr
 /// Two groups over the same two units whose totals differ by one: each pass takes one value off each end.
 pub fn slow_job(width: u64) -> Job {
     let group = |total, members: [usize; 2]| Group { total, limits: Limits::ANY, members: members.to_vec() };
-    Job { lows: vec![0; 2], highs: vec![width; 2], groups: vec![group(width, [0, 1]), group(width + 1, [1, 0])] }
+    let groups = vec![group(width, [0, 1]), group(width + 1, [1, 0])];
+    Job { lows: vec![0; 2], highs: vec![width; 2], marks: vec![RUNNING; 2], groups }
 }
 
 /// A sound job text of nearly so many bytes, from 256 to 24 KiB.

@@ -76,6 +76,8 @@ fn measured(start: Instant) -> (Vec<Table>, Results, Vec<Row>) {
     let reports = work::report::run();
     step("writing");
     let (writes, write) = work::write::run();
+    step("a third of the members shut");
+    let shut = work::shut::run();
     step("what Gecode leaves");
     let filtering = work::filtering::run();
     step("what Gecode does not refuse");
@@ -83,7 +85,7 @@ fn measured(start: Instant) -> (Vec<Table>, Results, Vec<Row>) {
     step("the experiment of 001");
     let (paper, rows) = work::paper::run();
     step("the goals");
-    let mut tables = vec![levels, narrows, growth, wide, reads, settles, reports, writes, filtering, refusals];
+    let mut tables = vec![levels, narrows, growth, wide, reads, settles, reports, writes, shut, filtering, refusals];
     tables.extend(paper);
     (tables, Results { level, narrow, read, settle, write }, rows)
 }

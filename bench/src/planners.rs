@@ -11,6 +11,8 @@ pub const BISECTION: &str = "plain Rust, bisection";
 /// The same in plain Rust the way that the proved planner goes: the bounds sorted once, ends by bisection over the rows and
 /// then over the values of one row.
 pub const ROWS: &str = "plain Rust, rows";
+/// The proved planner on the running members alone, where others have shut members too.
+pub const ALONE: &str = "planner, running members alone";
 /// Gecode with the figures posted about the mean: making the variables, posting and propagating.
 pub const GECODE: &str = "Gecode";
 /// Of that, the propagation alone.

@@ -17,16 +17,17 @@ static int same(const char *what, uint64_t found, uint64_t expected) {
 static int known_share(void) {
     const uint64_t lows[4] = {8, 4, 1, 3};
     const uint64_t highs[4] = {10, 7, 5, 4};
+    const uint64_t marks[4] = {0, 0, 0, 0};
     const uint64_t shares[5] = {8, 4, 4, 4, 99};
     uint64_t plan[5] = {0, 0, 0, 0, 99};
-    danivomel_levelled found = danivomel_level(lows, 4, highs, 4, 20, plan, 5);
+    danivomel_levelled found = danivomel_level(lows, 4, highs, 4, marks, 4, 20, plan, 5);
     int faults = same("refusal", found.refusal.number, DANIVOMEL_DONE) + same("place", found.refusal.place, 0);
     faults += same("level", found.level, 4);
     faults += same("deviation", found.deviation.value, 24) + same("spread", found.spread.value, 48);
     for (int i = 0; i < 5; i++) {
         faults += same("share", plan[i], shares[i]);
     }
-    found = danivomel_level(lows, 4, highs, 4, 27, plan, 5);
+    found = danivomel_level(lows, 4, highs, 4, marks, 4, 27, plan, 5);
     faults += same("refusal", found.refusal.number, DANIVOMEL_TOTAL_OUT_OF_REACH);
     return faults + same("plan after a refusal", plan[0], 8);
 }
@@ -35,16 +36,57 @@ static int known_share(void) {
 static int known_ranges(void) {
     uint64_t lows[4] = {8, 4, 1, 3};
     uint64_t highs[4] = {10, 7, 5, 4};
+    const uint64_t marks[4] = {0, 0, 0, 0};
     const uint64_t left[8] = {8, 4, 3, 3, 8, 5, 5, 4};
     danivomel_limits limits = {.deviation = {.any = false, .at_most = 28}, .spread = {.any = true}};
-    danivomel_refusal found = danivomel_narrow(lows, 4, highs, 4, 20, limits);
+    danivomel_refusal found = danivomel_narrow(lows, 4, highs, 4, marks, 4, 20, limits);
     int faults = same("refusal", found.number, DANIVOMEL_DONE) + same("place", found.place, 0);
     for (int i = 0; i < 4; i++) {
         faults += same("low", lows[i], left[i]) + same("high", highs[i], left[4 + i]);
     }
     limits.deviation.at_most = 23;
-    found = danivomel_narrow(lows, 4, highs, 4, 20, limits);
+    found = danivomel_narrow(lows, 4, highs, 4, marks, 4, 20, limits);
     return faults + same("refusal", found.number, DANIVOMEL_NONE_WITHIN_LIMITS);
+}
+
+/* A refusal's number and place. */
+static int refused_at(danivomel_refusal found, uint64_t number, uint64_t place) {
+    return same("refusal", found.number, number) + same("place", found.place, place);
+}
+
+/* The same group with a shut member at its second place gives the same figures, and 0 for that member. */
+static int shut_share(void) {
+    const uint64_t lows[5] = {8, 0, 4, 1, 3};
+    const uint64_t highs[5] = {10, 0, 7, 5, 4};
+    const uint64_t marks[5] = {DANIVOMEL_RUNNING, DANIVOMEL_SHUT, 0, 0, 0};
+    const uint64_t shares[5] = {8, 0, 4, 4, 4};
+    uint64_t plan[5];
+    danivomel_levelled found = danivomel_level(lows, 5, highs, 5, marks, 5, 20, plan, 5);
+    int faults = refused_at(found.refusal, DANIVOMEL_DONE, 0) + same("level", found.level, 4);
+    faults += same("deviation", found.deviation.value, 24) + same("spread", found.spread.value, 48);
+    for (int i = 0; i < 5; i++) {
+        faults += same("share", plan[i], shares[i]);
+    }
+    return faults;
+}
+
+/* And it is narrowed as without it; then every refusal for the marks. */
+static int shut_ranges(void) {
+    uint64_t lows[5] = {8, 0, 4, 1, 3};
+    uint64_t highs[5] = {10, 0, 7, 5, 4};
+    uint64_t marks[6] = {0, 1, 0, 0, 0, 0};
+    const uint64_t left[10] = {8, 0, 4, 3, 3, 8, 0, 5, 5, 4};
+    danivomel_limits limits = {.deviation = {.any = false, .at_most = 28}, .spread = {.any = true}};
+    int faults = refused_at(danivomel_narrow(lows, 5, highs, 5, marks, 5, 20, limits), DANIVOMEL_DONE, 0);
+    for (int i = 0; i < 5; i++) {
+        faults += same("low", lows[i], left[i]) + same("high", highs[i], left[5 + i]);
+    }
+    faults += refused_at(danivomel_narrow(lows, 5, highs, 5, marks, 4, 20, limits), DANIVOMEL_BAD_LISTS, 0);
+    faults += refused_at(danivomel_narrow(lows, 5, highs, 5, marks, 6, 20, limits), DANIVOMEL_BAD_LISTS, 0);
+    marks[2] = 1;
+    faults += refused_at(danivomel_narrow(lows, 5, highs, 5, marks, 5, 20, limits), DANIVOMEL_LOW_ABOVE_HIGH, 3);
+    marks[3] = 2;
+    return faults + refused_at(danivomel_narrow(lows, 5, highs, 5, marks, 5, 20, limits), DANIVOMEL_BEYOND_RANGE, 4);
 }
 
 /* The table's entries. */
@@ -88,8 +130,7 @@ static int known_job(void) {
 
 /* A refusal of writing: its number and place, and length 0. */
 static int same_refusal(danivomel_written found, uint64_t number, uint64_t place) {
-    return same("refusal", found.refusal.number, number) + same("place", found.refusal.place, place) +
-           same("length", found.length, 0);
+    return refused_at(found.refusal, number, place) + same("length", found.length, 0);
 }
 
 /* The worked job written with its settled table, with an entry past the units. */
@@ -129,7 +170,8 @@ static int refused_texts(void) {
 }
 
 int main(void) {
-    int faults = known_share() + known_ranges() + known_job() + known_text() + refused_texts();
+    int faults = known_share() + known_ranges() + shut_share() + shut_ranges();
+    faults += known_job() + known_text() + refused_texts();
     printf("c: %s\n", faults == 0 ? "linked, known answers hold" : "FAILED");
     return faults != 0;
 }

@@ -2,11 +2,11 @@
 
 use danivomel::{Counts, Deviation, Levelled, Limit, Limits, Range, Refusal, Reported, Spread, Unsettled};
 
-/// Levels one group: lows, highs, total, and the list that the shares are written to.
-pub type Level = fn(&[u64], &[u64], u64, &mut [u64]) -> Result<Levelled, Refusal>;
+/// Levels one group: lows, highs, marks, total, and the list that the shares are written to.
+pub type Level = fn(&[u64], &[u64], &[u64], u64, &mut [u64]) -> Result<Levelled, Refusal>;
 
-/// Narrows one group in place: lows, highs, total, limits.
-pub type Narrow = fn(&mut [u64], &mut [u64], u64, Limits) -> Result<(), Refusal>;
+/// Narrows one group in place: lows, highs, marks, total, limits.
+pub type Narrow = fn(&mut [u64], &mut [u64], &[u64], u64, Limits) -> Result<(), Refusal>;
 
 /// Reads a job text into a table.
 pub type Read = fn(&[u8], &mut [Range]) -> Result<Counts, Refusal>;

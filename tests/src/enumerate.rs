@@ -2,8 +2,8 @@
 //! what it finds comes of the specification's definitions of shares, figures, plans and tables at rest alone.
 
 use crate::calls::met;
-use crate::independent::reader::Group;
-use crate::independent::GREATEST_SHARE;
+use crate::independent::reader::{Group, Job};
+use crate::independent::{GREATEST_SHARE, RUNNING};
 use danivomel::{Deviation, Limits, Spread};
 
 /// A range: low and high.
@@ -32,36 +32,45 @@ fn extend(ranges: &[Range], left: u64, shares: &mut Vec<u64>, lists: &mut Vec<Ve
     }
 }
 
-/// The deviation of shares: the sum of |n × share − total|.
+/// What the running members have of a list with an item for each member: figures and totals above t are theirs alone.
+pub fn running<T: Copy>(list: &[T], marks: &[u64]) -> Vec<T> {
+    list.iter().zip(marks).filter(|(_, &mark)| mark == RUNNING).map(|(&item, _)| item).collect()
+}
+
+/// The deviation of running members' shares: the sum of |n × share − total|.
 pub fn deviation(shares: &[u64], total: u64) -> Deviation {
     let n = shares.len() as i128;
     Deviation(shares.iter().map(|&share| (n * share as i128 - total as i128).unsigned_abs() as u64).sum())
 }
 
-/// The spread of shares: n × (sum of squared shares) − total × total.
+/// The spread of running members' shares: n × (sum of squared shares) − total × total.
 pub fn spread(shares: &[u64], total: u64) -> Spread {
     let n = shares.len() as i128;
     let squares: i128 = shares.iter().map(|&share| share as i128 * share as i128).sum();
     Spread(u64::try_from(n * squares - total as i128 * total as i128).expect("a spread is not negative"))
 }
 
-/// The total above t: the sum of share − t over the shares above t.
+/// The total above t of running members' shares: the sum of share − t over those above t.
 pub fn above(shares: &[u64], t: u64) -> u64 {
     shares.iter().filter(|&&share| share > t).map(|&share| share - t).sum()
 }
 
-/// All plans: the share lists within both limits.
-pub fn plans(ranges: &[Range], total: u64, limits: Limits) -> Vec<Vec<u64>> {
+/// All plans: the share lists whose running members are within both limits.
+pub fn plans(ranges: &[Range], marks: &[u64], total: u64, limits: Limits) -> Vec<Vec<u64>> {
     let mut lists = share_lists(ranges, total);
-    lists.retain(|list| met(limits, deviation(list, total), spread(list, total)));
+    lists.retain(|list| {
+        let shares = running(list, marks);
+        met(limits, deviation(&shares, total), spread(&shares, total))
+    });
     lists
 }
 
 /// The levelled shares, found without a level: of the lists with the least spread, the one that gives the first
 /// members most.
-pub fn levelled(lists: &[Vec<u64>], total: u64) -> Option<&Vec<u64>> {
-    let least = lists.iter().map(|list| spread(list, total)).min()?;
-    lists.iter().rfind(|list| spread(list, total) == least)
+pub fn levelled<'a>(lists: &'a [Vec<u64>], marks: &[u64], total: u64) -> Option<&'a Vec<u64>> {
+    let spread_of = |list: &[u64]| spread(&running(list, marks), total);
+    let least = lists.iter().map(|list| spread_of(list)).min()?;
+    lists.iter().rfind(|list| spread_of(list) == least)
 }
 
 /// T(v): the sum of v moved into each range.
@@ -78,7 +87,7 @@ pub fn level(ranges: &[Range], total: u64) -> Option<u64> {
     (0..top).rev().find(|&v| total_at(ranges, v) <= total)
 }
 
-/// The specification's bound below the deviation.
+/// The specification's bound below the deviation, from the ranges of running members.
 pub fn deviation_bound(ranges: &[Range], total: u64) -> u64 {
     let n = ranges.len() as u64;
     let below: u64 = ranges.iter().map(|range| total.saturating_sub(n * range.1)).sum();
@@ -94,13 +103,18 @@ pub fn values_taken(plans: &[Vec<u64>], member: usize) -> Vec<u64> {
     values
 }
 
+/// What the members of a group have of a list with an item for each unit.
+pub fn of_members<T: Copy>(group: &Group, list: &[T]) -> Vec<T> {
+    group.members.iter().map(|&unit| list[unit]).collect()
+}
+
 /// What one group's turn leaves of a table, by its plans; or 11 or 12.
-pub fn revise(group: &Group, table: &mut [Range]) -> Result<(), u64> {
-    let ranges: Vec<Range> = group.members.iter().map(|&unit| table[unit]).collect();
+pub fn revise(group: &Group, marks: &[u64], table: &mut [Range]) -> Result<(), u64> {
+    let ranges = of_members(group, table);
     if share_lists(&ranges, group.total).is_empty() {
         return Err(11);
     }
-    let plans = plans(&ranges, group.total, group.limits);
+    let plans = plans(&ranges, &of_members(group, marks), group.total, group.limits);
     if plans.is_empty() {
         return Err(12);
     }
@@ -111,15 +125,15 @@ pub fn revise(group: &Group, table: &mut [Range]) -> Result<(), u64> {
     Ok(())
 }
 
-/// Settles a table by enumerated turns: the passes, or the number, the group's place and the passes.
-pub fn settle(groups: &[Group], table: &mut Vec<Range>) -> Result<u64, (u64, u64, u64)> {
+/// Settles a job's table by enumerated turns: the passes, or the number, the group's place and the passes.
+pub fn settle(job: &Job, table: &mut Vec<Range>) -> Result<u64, (u64, u64, u64)> {
     let opening = table.clone();
     let mut passes = 0;
     loop {
         passes += 1;
         let before = table.clone();
-        for (index, group) in groups.iter().enumerate() {
-            if let Err(number) = revise(group, table) {
+        for (index, group) in job.groups.iter().enumerate() {
+            if let Err(number) = revise(group, &job.marks, table) {
                 *table = opening;
                 return Err((number, index as u64 + 1, passes));
             }
@@ -146,10 +160,11 @@ fn draws(group: &Group, plan: &[u64], table: &[Range]) -> bool {
     plan.iter().zip(&group.members).all(|(&share, &unit)| table[unit].0 <= share && share <= table[unit].1)
 }
 
-/// Each group's plans inside a table.
-pub fn plans_of(groups: &[Group], table: &[Range]) -> Vec<Vec<Vec<u64>>> {
-    let ranges = |group: &Group| group.members.iter().map(|&unit| table[unit]).collect::<Vec<Range>>();
-    groups.iter().map(|group| plans(&ranges(group), group.total, group.limits)).collect()
+/// The plans of each group of a job inside a table.
+pub fn plans_of(job: &Job, table: &[Range]) -> Vec<Vec<Vec<u64>>> {
+    let of_group =
+        |group: &Group| plans(&of_members(group, table), &of_members(group, &job.marks), group.total, group.limits);
+    job.groups.iter().map(of_group).collect()
 }
 
 /// Every table inside another one.
@@ -172,10 +187,10 @@ pub fn tables_inside(opening: &[Range]) -> Vec<Vec<Range>> {
 }
 
 /// All tables at rest inside the opening one.
-pub fn tables_at_rest(groups: &[Group], opening: &[Range]) -> Vec<Vec<Range>> {
-    let opening_plans = plans_of(groups, opening);
+pub fn tables_at_rest(job: &Job, opening: &[Range]) -> Vec<Vec<Range>> {
+    let opening_plans = plans_of(job, opening);
     let mut tables = tables_inside(opening);
-    tables.retain(|table| at_rest(groups, &opening_plans, table));
+    tables.retain(|table| at_rest(&job.groups, &opening_plans, table));
     tables
 }
 
@@ -185,10 +200,10 @@ pub fn inside(table: &[Range], other: &[Range]) -> bool {
 }
 
 /// Whether one choice of shares from the table suits all groups at once.
-pub fn suits_all(groups: &[Group], table: &[Range]) -> bool {
+pub fn suits_all(job: &Job, table: &[Range]) -> bool {
     let single = |values: &Vec<Range>| values.iter().all(|range| range.0 == range.1);
     tables_inside(table)
         .iter()
         .filter(|choice| single(choice))
-        .any(|choice| plans_of(groups, choice).iter().all(|plans| !plans.is_empty()))
+        .any(|choice| plans_of(job, choice).iter().all(|plans| !plans.is_empty()))
 }

@@ -28,7 +28,7 @@ fn main() -> ExitCode {
 /// The seed, 1 where none is given; or what is wrong with the call.
 fn seed_if_ready() -> Result<u64, String> {
     let programs = [program::SETTLE.path, program::HAND_ON.path, linked::C_PROGRAM, linked::PRESS];
-    let mut built = programs.into_iter().chain(linked::EVENINGS).chain(linked::HANDED_ON);
+    let mut built = programs.into_iter().chain(linked::EVENINGS).chain(linked::HANDED_ON).chain(linked::SHUT);
     if let Some(missing) = built.find(|path| !Path::new(path).is_file()) {
         return Err(format!("{missing} is not there; tests/run builds it"));
     }
@@ -48,6 +48,7 @@ fn independent_planner(checks: &mut Checks) {
     topics::lists::run_level(checks, who, independent::level);
     topics::narrow::run(checks, who, independent::narrow);
     topics::lists::run_narrow(checks, who, independent::narrow);
+    topics::marks::run(checks, who, independent::level, independent::narrow);
     topics::judge::run(checks);
     topics::read::run(checks, who, independent::read);
     topics::lines::run(checks, who, independent::read);
@@ -66,6 +67,7 @@ fn independent_planner(checks: &mut Checks) {
         write: independent::write,
     };
     topics::handed::run(checks, who, planner);
+    topics::shut::run(checks, who, planner);
 }
 
 /// The proved planner against brute force and against the independent planner.
@@ -77,6 +79,7 @@ fn proved_planner(checks: &mut Checks) {
     topics::narrow::run(checks, who, danivomel::narrow);
     topics::narrow::compare(checks, who, danivomel::narrow);
     topics::lists::run_narrow(checks, who, danivomel::narrow);
+    topics::marks::run(checks, who, danivomel::level, danivomel::narrow);
     topics::read::run(checks, who, danivomel::read);
     topics::read::compare(checks, who, danivomel::read);
     topics::lines::run(checks, who, danivomel::read);
@@ -98,4 +101,6 @@ fn proved_planner(checks: &mut Checks) {
         write: danivomel::write,
     };
     topics::handed::run(checks, who, planner);
+    topics::shut::run(checks, who, planner);
+    topics::shut::compare(checks, who, planner);
 }

@@ -1,6 +1,6 @@
 //! A second reader of job texts, to judge the independent one: it takes a line's words apart loosely, prints the line
-//! anew from them, and compares the bytes. And a second writer: it puts other unit lines into a text, and leaves the
-//! group lines as they stand.
+//! anew from them, and compares the bytes. And a second writer: it puts other unit lines into a text, and leaves shut
+//! units and group lines as they stand.
 
 use danivomel::{Range, Refusal};
 
@@ -57,15 +57,9 @@ pub fn write(text: &[u8], table: &[Range], buffer: usize) -> Result<Vec<u8>, Ref
     if units > table.len() {
         return Err(Refusal { number: 1, place: 0 });
     }
-    let first = |wrong: fn(&Range) -> bool| table[..units].iter().position(wrong).map(|unit| unit as u64 + 1);
-    if let Some(place) = first(|range| range.low.max(range.high) > 1_000_000) {
-        return Err(Refusal { number: 4, place });
-    }
-    if let Some(place) = first(|range| range.low > range.high) {
-        return Err(Refusal { number: 7, place });
-    }
     let mut lines: Vec<Vec<u8>> = text.split_inclusive(|&byte| byte == 10).map(<[u8]>::to_vec).collect();
-    for (line, range) in lines.iter_mut().zip(&table[..units]) {
+    range_fault(&lines, &table[..units])?;
+    for (line, range) in lines.iter_mut().zip(&table[..units]).filter(|(line, _)| *line != SHUT_LINE) {
         *line = format!("(unit {} {})\n", range.low, range.high).into_bytes();
     }
     let whole = lines.concat();
@@ -73,6 +67,24 @@ pub fn write(text: &[u8], table: &[Range], buffer: usize) -> Result<Vec<u8>, Ref
         return Err(Refusal { number: 1, place: 0 });
     }
     Ok(whole)
+}
+
+/// The line of a shut unit.
+const SHUT_LINE: &[u8] = b"(shut)\n";
+
+/// Refusal 4 at the first range that has it; where none has, 7 likewise. The first lines are those of the units.
+fn range_fault(lines: &[Vec<u8>], ranges: &[Range]) -> Result<(), Refusal> {
+    let mut crossed = None;
+    for (index, (range, line)) in ranges.iter().zip(lines).enumerate() {
+        let place = index as u64 + 1;
+        if range.low.max(range.high) > 1_000_000 {
+            return Err(Refusal { number: 4, place });
+        }
+        if range.low > range.high || (*line == SHUT_LINE && range.low + range.high > 0) {
+            crossed = crossed.or(Some(Refusal { number: 7, place }));
+        }
+    }
+    crossed.map_or(Ok(()), Err)
 }
 
 /// The lowest refusal of a line, where it has one.
@@ -86,6 +98,7 @@ fn line_faults(state: &mut State, line: &[u8]) -> Option<Vec<u64>> {
     let words: Vec<&str> = line.split(['(', ')', ' ']).filter(|word| !word.is_empty()).collect();
     match words[..] {
         ["unit", low, high] => unit_faults(state, line, low, high),
+        ["shut"] => shut_faults(state, line),
         ["group", total, "dev", dev, "spread", spread, "of", ref members @ ..] => {
             group_faults(state, line, [total, dev, spread], members)
         }
@@ -107,6 +120,15 @@ fn unit_faults(state: &mut State, line: &str, low: &str, high: &str) -> Option<V
         (7, low > high),
     ];
     Some(present(&faults))
+}
+
+/// All refusals of the line of a shut unit.
+fn shut_faults(state: &mut State, line: &str) -> Option<Vec<u64>> {
+    if line != "(shut)" {
+        return None;
+    }
+    state.units += 1;
+    Some(present(&[(5, state.groups > 0), (6, state.units > 256)]))
 }
 
 /// All refusals of a group line, whose amounts are its total and its two limits.

@@ -7,13 +7,15 @@ mod rows;
 use breakpoints::{Member, Room, Table};
 use danivomel::{Limits, Range, Refusal, Unsettled};
 use danivomel_tests::independent::level::{clamp, has_shares};
-use danivomel_tests::independent::narrow::check_lists;
+use danivomel_tests::independent::narrow::{check_lists, Terms};
 use danivomel_tests::independent::settle::settle_job;
+use danivomel_tests::independent::{MOST_UNITS, RUNNING};
 
 /// Narrows by rows.
-pub fn narrow(lows: &mut [u64], highs: &mut [u64], total: u64, limits: Limits) -> Result<(), Refusal> {
-    check_lists(lows, highs, total, limits)?;
-    narrow_members(lows, highs, total, limits).map_err(|number| Refusal { number, place: 0 })
+pub fn narrow(lows: &mut [u64], highs: &mut [u64], marks: &[u64], total: u64, limits: Limits) -> Result<(), Refusal> {
+    let terms = Terms { marks, total, limits };
+    check_lists(lows, highs, terms)?;
+    narrow_members(lows, highs, terms).map_err(|number| Refusal { number, place: 0 })
 }
 
 /// Settles by rows.
@@ -21,11 +23,32 @@ pub fn settle(text: &[u8], table: &mut [Range], scratch: &mut [u64]) -> Result<u
     settle_job(text, table, scratch.len(), narrow_members).map(|(_, passes)| passes)
 }
 
-/// Narrows ranges that were checked; answers 11 or 12 where there is no plan, and then changes nothing. Few members get
-/// little room, which is sooner cleared.
-fn narrow_members(lows: &mut [u64], highs: &mut [u64], total: u64, limits: Limits) -> Result<(), u64> {
+/// Narrows ranges that were checked; answers 11 or 12 where there is no plan, and then changes nothing. Where members are
+/// shut, the running ones are gathered, narrowed and put back.
+fn narrow_members(lows: &mut [u64], highs: &mut [u64], terms: Terms) -> Result<(), u64> {
+    if terms.marks.iter().all(|&mark| mark == RUNNING) {
+        return narrow_running(lows, highs, terms.total, terms.limits);
+    }
+    let (mut own_lows, mut own_highs, mut places) = ([0; MOST_UNITS], [0; MOST_UNITS], [0; MOST_UNITS]);
+    let mut count = 0;
+    for (place, _) in terms.marks.iter().enumerate().filter(|(_, &mark)| mark == RUNNING) {
+        (own_lows[count], own_highs[count], places[count]) = (lows[place], highs[place], place);
+        count += 1;
+    }
+    narrow_running(&mut own_lows[..count], &mut own_highs[..count], terms.total, terms.limits)?;
+    for (index, &place) in places[..count].iter().enumerate() {
+        (lows[place], highs[place]) = (own_lows[index], own_highs[index]);
+    }
+    Ok(())
+}
+
+/// Narrows running members' ranges likewise. Few members get little room, which is sooner cleared.
+fn narrow_running(lows: &mut [u64], highs: &mut [u64], total: u64, limits: Limits) -> Result<(), u64> {
     if !has_shares(lows, highs, total) {
         return Err(11);
+    }
+    if lows.is_empty() {
+        return Ok(());
     }
     if lows.len() <= 16 {
         narrow_within(lows, highs, total, limits, &mut Room::<16, 32>::new())

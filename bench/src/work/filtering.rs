@@ -63,8 +63,9 @@ pub fn run() -> Table {
 /// The group as exact narrowing leaves it, by the planner and by plain Rust alike.
 fn narrowed(case: &GroupCase) -> GroupCase {
     let (mut after, mut expected) = (case.clone(), case.clone());
-    let answer = plain::narrow(&mut expected.lows, &mut expected.highs, case.total, case.limits);
-    same(PLANNER, "narrowing", danivomel::narrow(&mut after.lows, &mut after.highs, case.total, case.limits), answer);
+    let answer = plain::narrow(&mut expected.lows, &mut expected.highs, &case.marks, case.total, case.limits);
+    let found = danivomel::narrow(&mut after.lows, &mut after.highs, &case.marks, case.total, case.limits);
+    same(PLANNER, "narrowing", found, answer);
     same(PLANNER, "narrowed ranges", &after, &expected);
     after
 }
@@ -124,12 +125,12 @@ pub fn run_refusals() -> Table {
 /// Whether a group's least deviation is 0, so that no limit is below it.
 fn has_no_deviation(case: &GroupCase) -> bool {
     let mut plan = vec![0; case.lows.len()];
-    danivomel_tests::independent::level(&case.lows, &case.highs, case.total, &mut plan)
+    danivomel_tests::independent::level(&case.lows, &case.highs, &case.marks, case.total, &mut plan)
         .is_ok_and(|levelled| levelled.deviation.0 == 0)
 }
 
 /// Whether exact narrowing refuses.
 fn is_refused(case: &GroupCase) -> bool {
     let mut after = case.clone();
-    danivomel::narrow(&mut after.lows, &mut after.highs, case.total, case.limits).is_err()
+    danivomel::narrow(&mut after.lows, &mut after.highs, &case.marks, case.total, case.limits).is_err()
 }

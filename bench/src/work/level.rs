@@ -31,18 +31,18 @@ pub fn run() -> (Table, Vec<Times>) {
 }
 
 /// A contender that levels all groups, after its answers were compared.
-fn contender<'a>(who: (&'static str, Level), groups: &'a [GroupCase]) -> Contender<'a> {
+pub fn contender<'a>(who: (&'static str, Level), groups: &'a [GroupCase]) -> Contender<'a> {
     let (name, level) = who;
     for case in groups {
         let (mut plan, mut expected) = (vec![0; case.lows.len()], vec![0; case.lows.len()]);
-        let answer = independent::level(&case.lows, &case.highs, case.total, &mut expected);
-        same(name, "levelling", level(&case.lows, &case.highs, case.total, &mut plan), answer);
+        let answer = independent::level(&case.lows, &case.highs, &case.marks, case.total, &mut expected);
+        same(name, "levelling", level(&case.lows, &case.highs, &case.marks, case.total, &mut plan), answer);
         same(name, "levelled shares", plan, expected);
     }
     let mut plan = vec![0; groups[0].lows.len()];
     Contender::whole(name, move || {
         for case in groups {
-            let _ = black_box(level(black_box(&case.lows), &case.highs, case.total, &mut plan));
+            let _ = black_box(level(black_box(&case.lows), &case.highs, &case.marks, case.total, &mut plan));
         }
     })
 }

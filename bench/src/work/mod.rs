@@ -7,6 +7,7 @@ pub mod paper;
 pub mod read;
 pub mod report;
 pub mod settle;
+pub mod shut;
 pub mod write;
 
 use crate::jobs::job;

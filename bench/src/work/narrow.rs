@@ -95,10 +95,7 @@ fn row(n: usize, tightness: Tightness, first: bool, times: &Times) -> Vec<String
 /// Times all contenders on groups of one size.
 fn measure(n: usize, greatest: u64, tightness: Tightness, first: bool, gecode: bool) -> Times {
     let mut groups = groups_of(n, greatest, tightness);
-    let mut narrowed = groups.clone();
-    for case in &mut narrowed {
-        independent::narrow(&mut case.lows, &mut case.highs, case.total, case.limits).expect("the group has a plan");
-    }
+    let narrowed = narrowed_by_plain(&groups);
     if !first {
         groups = narrowed.clone();
     }
@@ -114,28 +111,38 @@ fn measure(n: usize, greatest: u64, tightness: Tightness, first: bool, gecode: b
     in_turn(contenders, groups.len())
 }
 
+/// The groups as the independent planner narrows them.
+pub fn narrowed_by_plain(groups: &[GroupCase]) -> Vec<GroupCase> {
+    let mut narrowed = groups.to_vec();
+    for GroupCase { lows, highs, marks, total, limits } in &mut narrowed {
+        independent::narrow(lows, highs, marks, *total, *limits).expect("the group has a plan");
+    }
+    narrowed
+}
+
 /// A group as Gecode takes it.
 fn problem(case: &GroupCase) -> Problem<'_> {
     Problem { lows: &case.lows, highs: &case.highs, posted: Posted::of(&[lone(case)]) }
 }
 
 /// Compares a planner's ranges with those of the independent one.
-fn compare(name: &str, narrow: Narrow, groups: &[GroupCase], narrowed: &[GroupCase]) {
+pub fn compare(name: &str, narrow: Narrow, groups: &[GroupCase], narrowed: &[GroupCase]) {
     for (case, expected) in groups.iter().zip(narrowed) {
         let mut after = case.clone();
-        same(name, "narrowing", narrow(&mut after.lows, &mut after.highs, case.total, case.limits), Ok(()));
+        let answer = narrow(&mut after.lows, &mut after.highs, &case.marks, case.total, case.limits);
+        same(name, "narrowing", answer, Ok(()));
         same(name, "narrowed ranges", &after, expected);
     }
 }
 
 /// Narrows a copy of all groups.
-fn first_call<'a>(name: &'static str, narrow: Narrow, groups: &'a [GroupCase]) -> Contender<'a> {
+pub fn first_call<'a>(name: &'static str, narrow: Narrow, groups: &'a [GroupCase]) -> Contender<'a> {
     let (mut lows, mut highs) = (groups[0].lows.clone(), groups[0].highs.clone());
     Contender::whole(name, move || {
         for case in groups {
             lows.copy_from_slice(&case.lows);
             highs.copy_from_slice(&case.highs);
-            let _ = black_box(narrow(black_box(&mut lows), &mut highs, case.total, case.limits));
+            let _ = black_box(narrow(black_box(&mut lows), &mut highs, &case.marks, case.total, case.limits));
         }
     })
 }
@@ -144,8 +151,8 @@ fn first_call<'a>(name: &'static str, narrow: Narrow, groups: &'a [GroupCase]) -
 fn quiet_call<'a>(name: &'static str, narrow: Narrow, groups: &'a [GroupCase]) -> Contender<'a> {
     let mut groups = groups.to_vec();
     Contender::whole(name, move || {
-        for case in &mut groups {
-            let _ = black_box(narrow(black_box(&mut case.lows), &mut case.highs, case.total, case.limits));
+        for GroupCase { lows, highs, marks, total, limits } in &mut groups {
+            let _ = black_box(narrow(black_box(lows), highs, marks, *total, *limits));
         }
     })
 }

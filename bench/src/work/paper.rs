@@ -96,7 +96,7 @@ fn known() {
     let (mut lows, mut highs) = ([0; 10], [1; 10]);
     let limits = Limits { deviation: Limit::AtMost(30), spread: Limit::Any };
     same("001's rule", "example 5", filter_on(&mut lows, &mut highs, 5, 30), true);
-    same("exact", "example 5", danivomel::narrow(&mut lows, &mut highs, 5, limits).is_err(), true);
+    same("exact", "example 5", danivomel::narrow(&mut lows, &mut highs, &[0; 10], 5, limits).is_err(), true);
 }
 
 /// Sets of variables, each with domains between two random numbers from -50 to 50.
@@ -131,11 +131,11 @@ type Filter<'a> = &'a dyn Fn(&mut [u64], &mut [u64]) -> bool;
 /// Lets every filter work on one instance.
 fn try_one(row: &mut Row, case: &GroupCase, limit: u64) {
     let mut expected = case.clone();
-    let answer = plain::narrow(&mut expected.lows, &mut expected.highs, case.total, case.limits);
+    let answer = plain::narrow(&mut expected.lows, &mut expected.highs, &case.marks, case.total, case.limits);
     let expected = answer.is_ok().then_some(expected);
     let posted = Posted::of(&[lone(case)]);
     let filters: [Filter; FILTERS.len()] = [
-        &|lows, highs| danivomel::narrow(lows, highs, case.total, case.limits).is_ok(),
+        &|lows, highs| danivomel::narrow(lows, highs, &case.marks, case.total, case.limits).is_ok(),
         &|lows, highs| filter_once(lows, highs, case.total, limit),
         &|lows, highs| filter_on(lows, highs, case.total, limit),
         &|lows, highs| gecode::propagate(&posted, lows, highs, Form::Written).0 != Outcome::Refused,

@@ -16,7 +16,7 @@ use danivomel_tests::topics::settle::WORKED;
 use std::hint::black_box;
 
 /// A job with its text, and the answer and the table that the independent planner leaves.
-struct Case {
+pub struct Case {
     name: String,
     job: Job,
     text: Vec<u8>,
@@ -85,7 +85,7 @@ fn cases() -> Vec<Case> {
 
 impl Case {
     /// A job with what the independent planner says of it.
-    fn of(name: String, job: Job) -> Case {
+    pub fn of(name: String, job: Job) -> Case {
         let (text, mut table) = (print_job(&job), calls::table(&job.lows, &job.highs));
         let mut scratch = vec![0; SCRATCH_PER_UNIT * table.len()];
         let answer = independent::settle(&text, &mut table, &mut scratch);
@@ -114,7 +114,7 @@ impl Case {
 }
 
 /// A contender that settles a job from its opening table, after its answer and its table were compared.
-fn contender<'a>(who: (&'static str, Settle), case: &'a Case) -> Contender<'a> {
+pub fn contender<'a>(who: (&'static str, Settle), case: &'a Case) -> Contender<'a> {
     let (name, settle) = who;
     let opening = calls::table(&case.job.lows, &case.job.highs);
     let mut table = opening.clone();

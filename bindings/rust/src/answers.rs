@@ -1,11 +1,12 @@
 //! What the calls take and answer.
 
-/// The deviation of n shares: the sum of |n × share − total|. Divided by n it is in copies.
+/// The deviation of n running members' shares: the sum of |n × share − total|. Divided by n it is in copies. It is 0 where
+/// no member runs.
 #[repr(C)]
 #[derive(Clone, Copy, Debug, PartialEq, Eq, PartialOrd, Ord)]
 pub struct Deviation(pub u64);
 
-/// The spread of n shares: n × (sum of squared shares) − total × total.
+/// The spread of n running members' shares: n × (sum of squared shares) − total × total. It is 0 where no member runs.
 #[repr(C)]
 #[derive(Clone, Copy, Debug, PartialEq, Eq, PartialOrd, Ord)]
 pub struct Spread(pub u64);

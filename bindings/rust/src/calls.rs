@@ -16,31 +16,51 @@ fn accepted(refusal: Refusal) -> Result<(), Refusal> {
 /// Levels a group: writes the most even shares within the lows and highs that add up to the total to the first numbers
 /// of the plan, and answers the level and the figures. No other such shares have a lesser deviation or spread.
 ///
+/// The marks have a number for each member: [`RUNNING`](crate::RUNNING), or [`SHUT`](crate::SHUT) for a member that is
+/// off the run, whose range is 0 to 0. A shut member's share is 0, and the figures leave it out.
+///
 /// # Errors
 ///
-/// In this order: 1 for lists empty, of unequal length, over 256, or a plan shorter than the group; 4 for a number of a
-/// unit beyond its range, place the unit, then for the total, place 0; 7 for a low above its high, place the unit; 11
-/// for a total out of reach, place 0. The plan is then as it was.
+/// In this order: 1 for lows, highs and marks empty, of unequal length or over 256, or a plan shorter than the group; 4
+/// for a low, high or mark of a unit beyond its range, place the unit, then for the total, place 0; 7 for a low above its
+/// high or a shut member's range other than 0 to 0, place the unit; 11 for a total out of reach, place 0. The plan is then
+/// as it was.
 ///
 /// ```
-/// use danivomel::{level, Deviation, Spread};
+/// use danivomel::{level, Deviation, Spread, RUNNING, SHUT};
 /// let mut plan = [0; 4];
-/// let levelled = level(&[8, 4, 1, 3], &[10, 7, 5, 4], 20, &mut plan).unwrap();
+/// let levelled = level(&[8, 4, 1, 3], &[10, 7, 5, 4], &[RUNNING; 4], 20, &mut plan).unwrap();
 /// assert_eq!(plan, [8, 4, 4, 4]);
 /// assert_eq!((levelled.level, levelled.deviation, levelled.spread), (4, Deviation(24), Spread(48)));
-/// assert_eq!(level(&[8, 4], &[10, 7], 18, &mut plan).unwrap_err().number, 11);
+/// assert_eq!(level(&[8, 4], &[10, 7], &[RUNNING; 2], 18, &mut plan).unwrap_err().number, 11);
+///
+/// let even = level(&[0; 3], &[9, 0, 9], &[RUNNING, SHUT, RUNNING], 10, &mut plan).unwrap();
+/// assert_eq!((&plan[..3], even.deviation), (&[5, 0, 5][..], Deviation(0)));
+/// let uneven = level(&[0; 3], &[9, 0, 9], &[RUNNING; 3], 10, &mut plan).unwrap();
+/// assert_eq!((&plan[..3], uneven.deviation), (&[5, 0, 5][..], Deviation(20)));
 /// ```
-pub fn level(lows: &[u64], highs: &[u64], total: u64, plan: &mut [u64]) -> Result<Levelled, Refusal> {
+pub fn level(lows: &[u64], highs: &[u64], marks: &[u64], total: u64, plan: &mut [u64]) -> Result<Levelled, Refusal> {
     // SAFETY: each pointer and count is a slice's, and no other slice overlaps the plan, which is borrowed mutably.
     let answer = unsafe {
-        danivomel_level(lows.as_ptr(), lows.len(), highs.as_ptr(), highs.len(), total, plan.as_mut_ptr(), plan.len())
+        danivomel_level(
+            lows.as_ptr(),
+            lows.len(),
+            highs.as_ptr(),
+            highs.len(),
+            marks.as_ptr(),
+            marks.len(),
+            total,
+            plan.as_mut_ptr(),
+            plan.len(),
+        )
     };
     accepted(answer.refusal)?;
     Ok(Levelled { level: answer.level, deviation: answer.deviation, spread: answer.spread })
 }
 
 /// Narrows a group in place: leaves for each member exactly the values that some plan takes, where a plan is a choice
-/// of shares within the lows and highs at the call that add up to the total and are within both limits.
+/// of shares within the lows and highs at the call that add up to the total and are within both limits. The marks are
+/// those of [`level`]: the figures are the running members', and a shut member keeps its range 0 to 0.
 ///
 /// # Errors
 ///
@@ -48,21 +68,36 @@ pub fn level(lows: &[u64], highs: &[u64], total: u64, plan: &mut [u64]) -> Resul
 /// limits, place 0. The lists are then as they were.
 ///
 /// ```
-/// use danivomel::{narrow, Limit, Limits};
+/// use danivomel::{narrow, Limit, Limits, RUNNING, SHUT};
 /// let (mut lows, mut highs) = ([8, 4, 1, 3], [10, 7, 5, 4]);
 /// let limits = Limits { deviation: Limit::AtMost(28), spread: Limit::Any };
-/// narrow(&mut lows, &mut highs, 20, limits).unwrap();
+/// narrow(&mut lows, &mut highs, &[RUNNING; 4], 20, limits).unwrap();
 /// assert_eq!((lows, highs), ([8, 4, 3, 3], [8, 5, 5, 4]));
+///
+/// let (mut lows, mut highs) = ([0; 3], [9, 0, 9]);
+/// let limits = Limits { deviation: Limit::AtMost(4), spread: Limit::Any };
+/// narrow(&mut lows, &mut highs, &[RUNNING, SHUT, RUNNING], 10, limits).unwrap();
+/// assert_eq!((lows, highs), ([4, 0, 4], [6, 0, 6]));
+/// assert_eq!(narrow(&mut lows, &mut highs, &[RUNNING; 3], 10, limits).unwrap_err().number, 12);
 /// ```
-pub fn narrow(lows: &mut [u64], highs: &mut [u64], total: u64, limits: Limits) -> Result<(), Refusal> {
-    // SAFETY: each pointer and count is a slice's, and the slices do not overlap, since both are borrowed mutably.
+pub fn narrow(lows: &mut [u64], highs: &mut [u64], marks: &[u64], total: u64, limits: Limits) -> Result<(), Refusal> {
+    // SAFETY: each pointer and count is a slice's, and no other slice overlaps lows or highs, both borrowed mutably.
     accepted(unsafe {
-        danivomel_narrow(lows.as_mut_ptr(), lows.len(), highs.as_mut_ptr(), highs.len(), total, limits.into())
+        danivomel_narrow(
+            lows.as_mut_ptr(),
+            lows.len(),
+            highs.as_mut_ptr(),
+            highs.len(),
+            marks.as_ptr(),
+            marks.len(),
+            total,
+            limits.into(),
+        )
     })
 }
 
-/// Reads a job text into a table, which then begins with the ranges of the unit lines; entries past the units keep
-/// their values.
+/// Reads a job text into a table, which then begins with the ranges of the unit lines, 0 to 0 for `(shut)`; entries past
+/// the units keep their values.
 ///
 /// # Errors
 ///
@@ -72,9 +107,9 @@ pub fn narrow(lows: &mut [u64], highs: &mut [u64], total: u64, limits: Limits) -
 /// ```
 /// use danivomel::{read, Range};
 /// let mut table = [Range { low: 9, high: 9 }; 3];
-/// let counts = read(b"(unit 0 5)\n(unit 1 4)\n", &mut table).unwrap();
+/// let counts = read(b"(unit 1 5)\n(shut)\n", &mut table).unwrap();
 /// assert_eq!((counts.units, counts.groups), (2, 0));
-/// assert_eq!(table, [Range { low: 0, high: 5 }, Range { low: 1, high: 4 }, Range { low: 9, high: 9 }]);
+/// assert_eq!(table, [Range { low: 1, high: 5 }, Range { low: 0, high: 0 }, Range { low: 9, high: 9 }]);
 /// ```
 pub fn read(text: &[u8], table: &mut [Range]) -> Result<Counts, Refusal> {
     // SAFETY: each pointer and count is a slice's, no other slice overlaps the table, which is borrowed mutably, and a
@@ -86,22 +121,27 @@ pub fn read(text: &[u8], table: &mut [Range]) -> Result<Counts, Refusal> {
 
 /// Settles a table under the groups of a job text: opens with the ranges that it holds, and leaves the greatest ranges
 /// inside them in which each value is taken, in each of its unit's groups, by a plan drawn from them. Answers the
-/// passes; entries past the units keep their values.
+/// passes; entries past the units keep their values. The text says which units are shut: their range in the table is 0 to
+/// 0, and the figures of their groups leave them out.
 ///
 /// The scratch has [`SCRATCH_PER_UNIT`](crate::SCRATCH_PER_UNIT) numbers a unit; what it held changes nothing, and it
 /// holds anything afterwards.
 ///
 /// # Errors
 ///
-/// As [`read`] does up to 10; 1 for a table or scratch too short for the units; 4, then 7 for the table's ranges, place
-/// the first such unit; 11 and 12 where no such ranges exist, place the group. The table is then as it was.
+/// As [`read`] does up to 10; 1 for a table or scratch too short for the units; 4, then 7 for the table's ranges (a low
+/// above its high, or a shut unit's range other than 0 to 0), place the first such unit; 11 and 12 where no such ranges
+/// exist, place the group. The table is then as it was.
 ///
 /// ```
-/// use danivomel::{settle, Range};
-/// let job = b"(unit 0 10)\n(unit 0 10)\n(group 10 (dev 4) (spread any) (of 1 2))\n";
-/// let mut table = [Range { low: 0, high: 10 }; 2];
-/// assert_eq!(settle(job, &mut table, &mut [0; 16]), Ok(2));
-/// assert_eq!(table, [Range { low: 4, high: 6 }; 2]);
+/// use danivomel::{settle, Range, Refusal};
+/// let job = b"(unit 0 10)\n(shut)\n(unit 0 10)\n(group 10 (dev 4) (spread any) (of 1 2 3))\n";
+/// let (open, shut) = (Range { low: 0, high: 10 }, Range { low: 0, high: 0 });
+/// let mut table = [open, shut, open];
+/// assert_eq!(settle(job, &mut table, &mut [0; 24]), Ok(2));
+/// assert_eq!(table, [Range { low: 4, high: 6 }, shut, Range { low: 4, high: 6 }]);
+/// let refusal = settle(job, &mut [open; 3], &mut [0; 24]).unwrap_err().refusal;
+/// assert_eq!(refusal, Refusal { number: 7, place: 2 });
 /// ```
 pub fn settle(text: &[u8], table: &mut [Range], scratch: &mut [u64]) -> Result<u64, Unsettled> {
     // SAFETY: as for reading, and the slices do not overlap, since two are borrowed mutably.
@@ -155,17 +195,17 @@ pub fn report(text: &[u8], table: &mut [Range], scratch: &mut [u64], buffer: &mu
     Ok(Reported { length: answer.length, passes: answer.passes })
 }
 
-/// Writes a job as a job text to the start of the buffer: the unit lines hold the ranges of the table, the group lines
-/// are those of the text. Answers the length of what is written; bytes past it keep their values. Entries past the units
-/// are not looked at.
+/// Writes a job as a job text to the start of the buffer: the unit lines hold the ranges of the table, those of shut units
+/// stay `(shut)`, and the group lines are those of the text. Answers the length of what is written; bytes past it keep
+/// their values. Entries past the units are not looked at.
 ///
 /// What is written reads as the same job with the table's ranges, and a settled job that was written settles in one
 /// pass. A buffer of [`WRITTEN_BYTES`](crate::WRITTEN_BYTES) bytes takes every job.
 ///
 /// # Errors
 ///
-/// As [`read`] does; then 4, then 7 for the table's ranges, place the first such unit; then 1 for a buffer shorter than
-/// what is to be written. The buffer is then as it was.
+/// As [`read`] does; then 4, then 7 for the table's ranges as [`settle`] does; then 1 for a buffer shorter than what is to
+/// be written. The buffer is then as it was.
 ///
 /// ```
 /// use danivomel::{settle, write, Range, WRITTEN_BYTES};

@@ -76,6 +76,8 @@ extern "C" {
         lows_count: usize,
         highs: *const u64,
         highs_count: usize,
+        marks: *const u64,
+        marks_count: usize,
         total: u64,
         plan: *mut u64,
         plan_count: usize,
@@ -86,6 +88,8 @@ extern "C" {
         lows_count: usize,
         highs: *mut u64,
         highs_count: usize,
+        marks: *const u64,
+        marks_count: usize,
         total: u64,
         limits: ForeignLimits,
     ) -> Refusal;

@@ -35,6 +35,12 @@ pub use refusal::{Refusal, Unsettled};
 /// The most units of a job, and the most members of a group: a table of so many entries takes every job.
 pub const MOST_UNITS: usize = 256;
 
+/// The mark of a member that runs.
+pub const RUNNING: u64 = 0;
+
+/// The mark of a member that is shut: its range is 0 to 0, and the figures leave it out.
+pub const SHUT: u64 = 1;
+
 /// How many numbers of scratch a unit needs.
 pub const SCRATCH_PER_UNIT: usize = 8;
 

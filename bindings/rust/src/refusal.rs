@@ -22,7 +22,7 @@ impl Refusal {
     /// What is wrong, in words.
     ///
     /// ```
-    /// let refusal = danivomel::level(&[5, 5], &[9, 9], 7, &mut [0; 2]).unwrap_err();
+    /// let refusal = danivomel::level(&[5, 5], &[9, 9], &[0, 0], 7, &mut [0; 2]).unwrap_err();
     /// assert_eq!(refusal.reason(), "the group's total cannot be made: the lows add up to more, or the highs to less");
     /// ```
     pub fn reason(&self) -> &'static str {
@@ -33,7 +33,7 @@ impl Refusal {
             4 => "a number is beyond its range",
             5 => "a unit line after a group line",
             6 => "too many: the 257th unit, the 65th group, or more than 4,096 memberships",
-            7 => "the low is above the high",
+            7 => "the low is above the high, or a shut unit's range is not 0 to 0",
             8 => "a unit number that is 0 or above the number of units",
             9 => "a unit twice in one group",
             10 => "no unit line at all",
@@ -43,8 +43,8 @@ impl Refusal {
         }
     }
 
-    /// What the place counts, where it is not 0. A number beyond its range and a low above its high are found in a text
-    /// and in lists, so that their place is a line or a unit, as the call had it.
+    /// What the place counts, where it is not 0. A number beyond its range and a range that is not allowed are found in a
+    /// text and in lists, so that their place is a line or a unit, as the call had it.
     fn counted(&self) -> &'static str {
         match self.number {
             4 | 7 => "line or unit",

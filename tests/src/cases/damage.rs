@@ -26,7 +26,7 @@ pub fn damage(random: &mut Random, text: &mut Vec<u8>) {
 
 /// A byte of the form, or one next to its kinds.
 fn telling_byte(random: &mut Random) -> u8 {
-    random.one_of(b"() \n0123456789anydevunitgroupspreadof/:`{'*!\x1f\t\r\x00\xff-AZ")
+    random.one_of(b"() \n0123456789anydevunitgroupspreadofshut/:`{'*!\x1f\t\r\x00\xff-AZ")
 }
 
 /// Where numbers start.

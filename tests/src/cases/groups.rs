@@ -1,25 +1,33 @@
-//! Random groups: small ones that can be enumerated, and large ones to the edges of every range.
+//! Random groups: small ones that can be enumerated, and large ones to the edges of every range; half of them with shut
+//! members.
 
-use crate::enumerate::{deviation, spread, Range};
+use crate::enumerate::{deviation, running, spread, Range};
 use crate::independent::level::{each_levelled, figures, has_shares};
-use crate::independent::{GREATEST_DEVIATION, GREATEST_SHARE, GREATEST_SPREAD, MOST_UNITS};
+use crate::independent::{GREATEST_DEVIATION, GREATEST_SHARE, GREATEST_SPREAD, MOST_UNITS, RUNNING, SHUT};
 use crate::random::Random;
 use danivomel::{Limit, Limits};
 
-/// One group: its ranges, its total and its limits.
+/// One group: its ranges, its marks, its total and its limits.
 #[derive(Clone, Debug, PartialEq, Eq)]
 pub struct GroupCase {
     pub lows: Vec<u64>,
     pub highs: Vec<u64>,
+    pub marks: Vec<u64>,
     pub total: u64,
     pub limits: Limits,
 }
 
 impl GroupCase {
-    /// A group of ranges, without limits.
+    /// A group of running members' ranges, without limits.
     pub fn of(ranges: &[Range], total: u64) -> GroupCase {
         let (lows, highs) = ranges.iter().copied().unzip();
-        GroupCase { lows, highs, total, limits: Limits::ANY }
+        GroupCase { lows, highs, marks: vec![RUNNING; ranges.len()], total, limits: Limits::ANY }
+    }
+
+    /// The same group with other marks.
+    pub fn marked(mut self, marks: &[u64]) -> GroupCase {
+        self.marks = marks.to_vec();
+        self
     }
 
     /// The same group under limits.
@@ -31,6 +39,31 @@ impl GroupCase {
     /// The group's ranges.
     pub fn ranges(&self) -> Vec<Range> {
         self.lows.iter().copied().zip(self.highs.iter().copied()).collect()
+    }
+
+    /// The group without its shut members.
+    pub fn running(&self) -> GroupCase {
+        let case = GroupCase::of(&running(&self.ranges(), &self.marks), self.total);
+        GroupCase { limits: self.limits, ..case }
+    }
+}
+
+/// Marks for so many members: all running in half of the lists, else some shut, now and then all.
+pub fn marks(random: &mut Random, n: usize) -> Vec<u64> {
+    match random.between(0, 15) {
+        0..=7 => vec![RUNNING; n],
+        8 => vec![SHUT; n],
+        _ => (0..n).map(|_| if random.once_in(3) { SHUT } else { RUNNING }).collect(),
+    }
+}
+
+/// Ranges with 0 to 0 for shut members, and in such a group now and then for a running one.
+fn shut_ranges(random: &mut Random, ranges: &mut [Range], marks: &[u64]) {
+    let some = marks.contains(&SHUT);
+    for (range, &mark) in ranges.iter_mut().zip(marks) {
+        if mark == SHUT || (some && random.once_in(8)) {
+            *range = (0, 0);
+        }
     }
 }
 
@@ -48,8 +81,15 @@ pub fn small(random: &mut Random) -> GroupCase {
         let low = base + random.between(0, 7);
         ranges.push((low, low + random.between(0, width)));
     }
+    some_shut(random, ranges)
+}
+
+/// A group of such ranges, some of its members perhaps shut, with a total in reach or just out of it.
+fn some_shut(random: &mut Random, mut ranges: Vec<Range>) -> GroupCase {
+    let marks = marks(random, ranges.len());
+    shut_ranges(random, &mut ranges, &marks);
     let total = near(random, &ranges);
-    GroupCase::of(&ranges, total)
+    GroupCase::of(&ranges, total).marked(&marks)
 }
 
 /// A total between one below the lows' sum and one above the highs'.
@@ -62,16 +102,16 @@ fn near(random: &mut Random, ranges: &[Range]) -> u64 {
     random.between(lows, highs)
 }
 
-/// Limits at, just below or above the figures of one of the share lists.
-pub fn limits_near(random: &mut Random, lists: &[Vec<u64>], total: u64) -> Limits {
+/// Limits at, just below or above the figures of one of the group's share lists.
+pub fn limits_near(random: &mut Random, lists: &[Vec<u64>], case: &GroupCase) -> Limits {
     if lists.is_empty() {
         return Limits { deviation: around(random, 4), spread: around(random, 9) };
     }
-    let first = random.index(lists.len());
-    let second = random.index(lists.len());
+    let first = running(&lists[random.index(lists.len())], &case.marks);
+    let second = running(&lists[random.index(lists.len())], &case.marks);
     Limits {
-        deviation: around(random, deviation(&lists[first], total).0),
-        spread: around(random, spread(&lists[second], total).0),
+        deviation: around(random, deviation(&first, case.total).0),
+        spread: around(random, spread(&second, case.total).0),
     }
 }
 
@@ -91,8 +131,7 @@ pub fn large(random: &mut Random, most: usize) -> GroupCase {
     let style = random.between(0, 5);
     let centre = random.between(0, GREATEST_SHARE);
     let ranges: Vec<Range> = (0..n).map(|_| large_range(random, style, centre)).collect();
-    let total = near(random, &ranges);
-    GroupCase::of(&ranges, total)
+    some_shut(random, ranges)
 }
 
 /// A range of one of six styles: free, narrow, near a centre, single values, the edges, all from 0.
@@ -119,7 +158,7 @@ pub fn limits_of(random: &mut Random, case: &GroupCase) -> Limits {
     }
     let mut shares = [0; MOST_UNITS];
     each_levelled(&case.lows, &case.highs, case.total, |member, share| shares[member] = share);
-    let (least_deviation, least_spread) = figures(&shares[..case.lows.len()], case.total);
+    let (least_deviation, least_spread) = figures(&shares[..case.lows.len()], &case.marks, case.total);
     Limits {
         deviation: stretched(random, least_deviation.0, GREATEST_DEVIATION),
         spread: stretched(random, least_spread.0, GREATEST_SPREAD),

@@ -1,8 +1,9 @@
-//! Random sound jobs, and the printer of job texts.
+//! Random sound jobs, half of them with shut units, and the printer of job texts.
 
-use crate::enumerate::{deviation, spread};
+use super::groups::marks;
+use crate::enumerate::{deviation, of_members, running, spread};
 use crate::independent::reader::{Group, Job};
-use crate::independent::{GREATEST_DEVIATION, GREATEST_SHARE, GREATEST_SPREAD};
+use crate::independent::{GREATEST_DEVIATION, GREATEST_SHARE, GREATEST_SPREAD, SHUT};
 use crate::random::Random;
 use danivomel::{Limit, Limits};
 use std::fmt::Write;
@@ -26,8 +27,8 @@ pub const WIDE: Size = Size { units: 60, groups: 12, width: 2_000, greatest: GRE
 /// The text of a job.
 pub fn print_job(job: &Job) -> Vec<u8> {
     let mut text = String::new();
-    for (low, high) in job.lows.iter().zip(&job.highs) {
-        let _ = writeln!(text, "(unit {low} {high})");
+    for ((low, high), &mark) in job.lows.iter().zip(&job.highs).zip(&job.marks) {
+        text.push_str(&if mark == SHUT { "(shut)\n".to_string() } else { format!("(unit {low} {high})\n") });
     }
     for group in &job.groups {
         let (dev, spread) = (limit_word(group.limits.deviation), limit_word(group.limits.spread));
@@ -49,32 +50,40 @@ fn limit_word(limit: Limit) -> String {
 pub fn sound(random: &mut Random, size: Size) -> Job {
     let mut job = Job::default();
     let mut choice = vec![];
-    for _ in 0..random.between(1, size.units) {
-        let low = random.between(0, size.greatest);
-        let high = (low + random.between(0, size.width)).min(GREATEST_SHARE);
+    let units = random.between(1, size.units) as usize;
+    job.marks = marks(random, units);
+    for &mark in &job.marks {
+        let (low, high) = if mark == SHUT { (0, 0) } else { range(random, size) };
         choice.push(random.between(low, high));
         job.lows.push(low);
         job.highs.push(high);
     }
     for _ in 0..random.between(0, size.groups) {
-        job.groups.push(group_around(random, &choice));
+        job.groups.push(group_around(random, &choice, &job.marks));
     }
     job
 }
 
+/// The range of a running unit.
+fn range(random: &mut Random, size: Size) -> (u64, u64) {
+    let low = random.between(0, size.greatest);
+    (low, (low + random.between(0, size.width)).min(GREATEST_SHARE))
+}
+
 /// A group whose total and limits fit a choice of shares, or nearly.
-fn group_around(random: &mut Random, choice: &[u64]) -> Group {
+fn group_around(random: &mut Random, choice: &[u64], marks: &[u64]) -> Group {
     let mut members: Vec<usize> = (0..choice.len()).collect();
     random.shuffle(&mut members);
     members.truncate(random.between(1, choice.len() as u64) as usize);
-    let shares: Vec<u64> = members.iter().map(|&unit| choice[unit]).collect();
+    let mut group = Group { total: 0, limits: Limits::ANY, members };
+    let shares = running(&of_members(&group, choice), &of_members(&group, marks));
     let exact: u64 = shares.iter().sum();
-    let total = if random.once_in(6) { exact + 1 } else { exact };
-    let limits = Limits {
+    group.total = if random.once_in(6) { exact + 1 } else { exact };
+    group.limits = Limits {
         deviation: limit_over(random, deviation(&shares, exact).0, GREATEST_DEVIATION),
         spread: limit_over(random, spread(&shares, exact).0, GREATEST_SPREAD),
     };
-    Group { total, limits, members }
+    group
 }
 
 /// Any, or a limit a little above a figure, now and then below it.
@@ -88,11 +97,11 @@ fn limit_over(random: &mut Random, figure: u64, greatest: u64) -> Limit {
     Limit::AtMost(most.min(greatest))
 }
 
-/// A table other than the unit lines: each range moved, widened or shrunk a little.
+/// A table other than the unit lines: each range but those of shut units moved, widened or shrunk a little.
 pub fn other_table(random: &mut Random, job: &Job) -> (Vec<u64>, Vec<u64>) {
     let mut lows = job.lows.clone();
     let mut highs = job.highs.clone();
-    for unit in 0..lows.len() {
+    for unit in (0..lows.len()).filter(|&unit| job.marks[unit] != SHUT) {
         let moved = lows[unit].saturating_sub(random.between(0, 2)) + random.between(0, 2);
         lows[unit] = moved.min(GREATEST_SHARE);
         highs[unit] = (highs[unit] + random.between(0, 1)).clamp(lows[unit], GREATEST_SHARE);

@@ -1,9 +1,10 @@
-//! Random tables that are lent for a job: ranges of four kinds, some of them faulty, for more or fewer than its units.
+//! Random tables that are lent for a job: ranges of four kinds, 0 to 0 for shut units, some of them faulty, for more or
+//! fewer than its units.
 
 use super::jobs::{other_table, print_job};
 use crate::calls;
 use crate::independent::reader::Job;
-use crate::independent::{self, GREATEST_SHARE, SCRATCH_PER_UNIT};
+use crate::independent::{self, GREATEST_SHARE, SCRATCH_PER_UNIT, SHUT};
 use crate::random::Random;
 use danivomel::Range;
 
@@ -21,7 +22,11 @@ pub fn ranges(random: &mut Random, job: &Job) -> Vec<Range> {
             let (lows, highs) = other_table(random, job);
             table = calls::table(&lows, &highs);
         }
-        _ => table.iter_mut().for_each(|range| *range = any_range(random)),
+        _ => {
+            for (range, _) in table.iter_mut().zip(&job.marks).filter(|(_, &mark)| mark != SHUT) {
+                *range = any_range(random);
+            }
+        }
     }
     table
 }
@@ -42,7 +47,10 @@ pub fn lent(random: &mut Random, job: &Job) -> Vec<Range> {
     let units = table.len();
     for _ in 0..random.one_of(&[0, 0, 0, 1, 2]) {
         let unit = random.index(units);
-        spoil(random, &mut table[unit]);
+        match job.marks[unit] {
+            SHUT if random.once_in(2) => table[unit] = any_range(random),
+            _ => spoil(random, &mut table[unit]),
+        }
     }
     match random.between(0, 7) {
         0 => table.truncate(random.index(units)),

@@ -1,36 +1,38 @@
 //! Levelling one group: the level, the levelled shares and their figures, and the checks on lists of one group.
 
-use super::{GREATEST_SHARE, GREATEST_TOTAL, MOST_UNITS};
+use super::{GREATEST_SHARE, GREATEST_TOTAL, MOST_UNITS, RUNNING, SHUT};
 use danivomel::{Deviation, Levelled, Refusal, Spread};
 
 /// Levels a group and writes the shares to the plan; numbers past the members, and on a refusal all, keep their values.
-pub fn level(lows: &[u64], highs: &[u64], total: u64, plan: &mut [u64]) -> Result<Levelled, Refusal> {
-    check_shape(lows, highs)?;
+pub fn level(lows: &[u64], highs: &[u64], marks: &[u64], total: u64, plan: &mut [u64]) -> Result<Levelled, Refusal> {
+    check_shape(lows, highs, marks)?;
     if plan.len() < lows.len() {
         return Err(Refusal { number: 1, place: 0 });
     }
-    check_numbers(lows, highs)?;
+    check_numbers(lows, highs, marks)?;
     check_top(total, GREATEST_TOTAL)?;
-    check_order(lows, highs)?;
+    check_order(lows, highs, marks)?;
     if !has_shares(lows, highs, total) {
         return Err(Refusal { number: 11, place: 0 });
     }
     let level = each_levelled(lows, highs, total, |member, share| plan[member] = share);
-    let (deviation, spread) = figures(&plan[..lows.len()], total);
+    let (deviation, spread) = figures(&plan[..lows.len()], marks, total);
     Ok(Levelled { level, deviation, spread })
 }
 
 /// Refusal 1: lists empty, of unequal length, or over 256.
-pub fn check_shape(lows: &[u64], highs: &[u64]) -> Result<(), Refusal> {
-    if lows.is_empty() || lows.len() != highs.len() || lows.len() > MOST_UNITS {
+pub fn check_shape(lows: &[u64], highs: &[u64], marks: &[u64]) -> Result<(), Refusal> {
+    let n = lows.len();
+    if n == 0 || n > MOST_UNITS || highs.len() != n || marks.len() != n {
         return Err(Refusal { number: 1, place: 0 });
     }
     Ok(())
 }
 
-/// Refusal 4 for the units in order.
-pub fn check_numbers(lows: &[u64], highs: &[u64]) -> Result<(), Refusal> {
-    match (0..lows.len()).find(|&i| lows[i] > GREATEST_SHARE || highs[i] > GREATEST_SHARE) {
+/// Refusal 4 for the units in order: a low, a high or a mark beyond its range.
+pub fn check_numbers(lows: &[u64], highs: &[u64], marks: &[u64]) -> Result<(), Refusal> {
+    let beyond = |i: usize| lows[i] > GREATEST_SHARE || highs[i] > GREATEST_SHARE || marks[i] > SHUT;
+    match (0..lows.len()).find(|&i| beyond(i)) {
         Some(i) => Err(Refusal { number: 4, place: i as u64 + 1 }),
         None => Ok(()),
     }
@@ -44,9 +46,10 @@ pub fn check_top(number: u64, greatest: u64) -> Result<(), Refusal> {
     Ok(())
 }
 
-/// Refusal 7 for the units in order.
-pub fn check_order(lows: &[u64], highs: &[u64]) -> Result<(), Refusal> {
-    match (0..lows.len()).find(|&i| lows[i] > highs[i]) {
+/// Refusal 7 for the units in order: a low above its high, or a shut unit with another range than 0 to 0.
+pub fn check_order(lows: &[u64], highs: &[u64], marks: &[u64]) -> Result<(), Refusal> {
+    let wrong = |i: usize| lows[i] > highs[i] || (marks[i] == SHUT && highs[i] > 0);
+    match (0..lows.len()).find(|&i| wrong(i)) {
         Some(i) => Err(Refusal { number: 7, place: i as u64 + 1 }),
         None => Ok(()),
     }
@@ -88,7 +91,7 @@ pub fn level_of(lows: &[u64], highs: &[u64], total: u64) -> u64 {
     level
 }
 
-/// Gives each member's levelled share in order, and answers the level.
+/// Gives each member's levelled share in order, a shut one's 0 too, and answers the level.
 pub fn each_levelled(lows: &[u64], highs: &[u64], total: u64, mut give: impl FnMut(usize, u64)) -> u64 {
     let level = level_of(lows, highs, total);
     let mut left = total - total_at(lows, highs, level);
@@ -100,15 +103,25 @@ pub fn each_levelled(lows: &[u64], highs: &[u64], total: u64, mut give: impl FnM
     level
 }
 
-/// A member's part of the deviation: |n × share − total|.
+/// n of both figures: the number of members not shut.
+pub fn count_running(marks: &[u64]) -> u64 {
+    marks.iter().filter(|&&mark| mark == RUNNING).count() as u64
+}
+
+/// A running member's part of the deviation: |n × share − total|.
 pub fn deviation_part(n: u64, share: u64, total: u64) -> u64 {
     (n * share).abs_diff(total)
 }
 
-/// The deviation and the spread of shares with the total.
-pub fn figures(shares: &[u64], total: u64) -> (Deviation, Spread) {
-    let n = shares.len() as u64;
-    let deviation = shares.iter().map(|&share| deviation_part(n, share, total)).sum();
-    let squares: u64 = shares.iter().map(|&share| share * share).sum();
+/// The deviation and the spread of shares with the total: n counts the running members, and the sums are theirs alone.
+pub fn figures(shares: &[u64], marks: &[u64], total: u64) -> (Deviation, Spread) {
+    let n = count_running(marks);
+    let (mut deviation, mut squares) = (0, 0);
+    for (&share, &mark) in shares.iter().zip(marks) {
+        if mark == RUNNING {
+            deviation += deviation_part(n, share, total);
+            squares += share * share;
+        }
+    }
     (Deviation(deviation), Spread(n * squares - total * total))
 }

@@ -23,6 +23,10 @@ pub const GREATEST_TOTAL: u64 = 256_000_000;
 pub const GREATEST_DEVIATION: u64 = 100_000_000_000;
 /// The greatest spread limit.
 pub const GREATEST_SPREAD: u64 = 100_000_000_000_000_000;
+/// The mark of a running member.
+pub const RUNNING: u64 = 0;
+/// The mark of a shut member.
+pub const SHUT: u64 = 1;
 /// The most members of a group, and the most units of a job.
 pub const MOST_UNITS: usize = 256;
 /// The most groups of a job.

@@ -1,24 +1,35 @@
 //! Narrowing one group under its limits: each end is looked for by levelling the group with one member pinned.
 
-use super::level::{check_numbers, check_order, check_shape, check_top, deviation_part, each_levelled, has_shares};
-use super::{GREATEST_DEVIATION, GREATEST_SPREAD, GREATEST_TOTAL, MOST_UNITS};
+use super::level::{
+    check_numbers, check_order, check_shape, check_top, count_running, deviation_part, each_levelled, has_shares,
+};
+use super::{GREATEST_DEVIATION, GREATEST_SPREAD, GREATEST_TOTAL, MOST_UNITS, RUNNING};
 use crate::calls::met;
 use danivomel::{Deviation, Limit, Limits, Refusal, Spread};
 
+/// What a group asks of its members' ranges: a mark for each of them, the total and the limits.
+#[derive(Clone, Copy, Debug)]
+pub struct Terms<'a> {
+    pub marks: &'a [u64],
+    pub total: u64,
+    pub limits: Limits,
+}
+
 /// Narrows the ranges to the values that some plan takes; on a refusal they are as they were.
-pub fn narrow(lows: &mut [u64], highs: &mut [u64], total: u64, limits: Limits) -> Result<(), Refusal> {
-    check_lists(lows, highs, total, limits)?;
-    narrow_members(lows, highs, total, limits).map_err(|number| Refusal { number, place: 0 })
+pub fn narrow(lows: &mut [u64], highs: &mut [u64], marks: &[u64], total: u64, limits: Limits) -> Result<(), Refusal> {
+    let terms = Terms { marks, total, limits };
+    check_lists(lows, highs, terms)?;
+    narrow_members(lows, highs, terms).map_err(|number| Refusal { number, place: 0 })
 }
 
 /// Refusals 1, 4 and 7 for the lists, the total and the limits.
-pub fn check_lists(lows: &[u64], highs: &[u64], total: u64, limits: Limits) -> Result<(), Refusal> {
-    check_shape(lows, highs)?;
-    check_numbers(lows, highs)?;
-    check_top(total, GREATEST_TOTAL)?;
-    check_limit(limits.deviation, GREATEST_DEVIATION)?;
-    check_limit(limits.spread, GREATEST_SPREAD)?;
-    check_order(lows, highs)
+pub fn check_lists(lows: &[u64], highs: &[u64], terms: Terms) -> Result<(), Refusal> {
+    check_shape(lows, highs, terms.marks)?;
+    check_numbers(lows, highs, terms.marks)?;
+    check_top(terms.total, GREATEST_TOTAL)?;
+    check_limit(terms.limits.deviation, GREATEST_DEVIATION)?;
+    check_limit(terms.limits.spread, GREATEST_SPREAD)?;
+    check_order(lows, highs, terms.marks)
 }
 
 /// Refusal 4 for a limit.
@@ -30,55 +41,58 @@ fn check_limit(limit: Limit, greatest: u64) -> Result<(), Refusal> {
 }
 
 /// Narrows ranges that were checked; answers 11 or 12 where there is no plan, and then changes nothing.
-pub fn narrow_members(lows: &mut [u64], highs: &mut [u64], total: u64, limits: Limits) -> Result<(), u64> {
-    if !has_shares(lows, highs, total) {
+pub fn narrow_members(lows: &mut [u64], highs: &mut [u64], terms: Terms) -> Result<(), u64> {
+    if !has_shares(lows, highs, terms.total) {
         return Err(11);
     }
-    if !limits_met(lows, highs, total, limits) {
+    if !limits_met(lows, highs, terms) {
         return Err(12);
     }
     let mut plan = [0; MOST_UNITS];
-    each_levelled(lows, highs, total, |member, share| plan[member] = share);
+    each_levelled(lows, highs, terms.total, |member, share| plan[member] = share);
     for member in 0..lows.len() {
-        lows[member] = least_taken(lows, highs, total, limits, member, plan[member]);
-        highs[member] = greatest_taken(lows, highs, total, limits, member, plan[member]);
+        lows[member] = least_taken(lows, highs, terms, member, plan[member]);
+        highs[member] = greatest_taken(lows, highs, terms, member, plan[member]);
     }
     Ok(())
 }
 
-/// Whether the levelled shares are within the limits.
-fn limits_met(lows: &[u64], highs: &[u64], total: u64, limits: Limits) -> bool {
-    let n = lows.len() as u64;
+/// Whether the levelled shares are within the limits, by the figures of the running members.
+fn limits_met(lows: &[u64], highs: &[u64], terms: Terms) -> bool {
+    let Terms { marks, total, limits } = terms;
+    let n = count_running(marks);
     let mut deviation = 0;
     let mut squares = 0;
-    each_levelled(lows, highs, total, |_, share| {
-        deviation += deviation_part(n, share, total);
-        squares += share * share;
+    each_levelled(lows, highs, total, |member, share| {
+        if marks[member] == RUNNING {
+            deviation += deviation_part(n, share, total);
+            squares += share * share;
+        }
     });
     met(limits, Deviation(deviation), Spread(n * squares - total * total))
 }
 
 /// Whether some plan gives the member this value.
-pub fn taken(lows: &mut [u64], highs: &mut [u64], total: u64, limits: Limits, member: usize, value: u64) -> bool {
+pub fn taken(lows: &mut [u64], highs: &mut [u64], terms: Terms, member: usize, value: u64) -> bool {
     let (low, high) = (lows[member], highs[member]);
     lows[member] = value;
     highs[member] = value;
-    let found = has_shares(lows, highs, total) && limits_met(lows, highs, total, limits);
+    let found = has_shares(lows, highs, terms.total) && limits_met(lows, highs, terms);
     lows[member] = low;
     highs[member] = high;
     found
 }
 
 /// The member's least value that some plan takes, where its levelled share is such a value.
-fn least_taken(lows: &mut [u64], highs: &mut [u64], total: u64, limits: Limits, member: usize, share: u64) -> u64 {
+fn least_taken(lows: &mut [u64], highs: &mut [u64], terms: Terms, member: usize, share: u64) -> u64 {
     let mut untaken = lows[member];
-    if taken(lows, highs, total, limits, member, untaken) {
+    if taken(lows, highs, terms, member, untaken) {
         return untaken;
     }
     let mut found = share;
     while found - untaken > 1 {
         let middle = (untaken + found) / 2;
-        if taken(lows, highs, total, limits, member, middle) {
+        if taken(lows, highs, terms, member, middle) {
             found = middle;
         } else {
             untaken = middle;
@@ -88,15 +102,15 @@ fn least_taken(lows: &mut [u64], highs: &mut [u64], total: u64, limits: Limits, 
 }
 
 /// The member's greatest value that some plan takes, where its levelled share is such a value.
-fn greatest_taken(lows: &mut [u64], highs: &mut [u64], total: u64, limits: Limits, member: usize, share: u64) -> u64 {
+fn greatest_taken(lows: &mut [u64], highs: &mut [u64], terms: Terms, member: usize, share: u64) -> u64 {
     let mut untaken = highs[member];
-    if taken(lows, highs, total, limits, member, untaken) {
+    if taken(lows, highs, terms, member, untaken) {
         return untaken;
     }
     let mut found = share;
     while untaken - found > 1 {
         let middle = (untaken + found) / 2;
-        if taken(lows, highs, total, limits, member, middle) {
+        if taken(lows, highs, terms, member, middle) {
             found = middle;
         } else {
             untaken = middle;

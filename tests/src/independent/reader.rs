@@ -2,7 +2,7 @@
 
 use super::{
     GREATEST_DEVIATION, GREATEST_SHARE, GREATEST_SPREAD, GREATEST_TOTAL, MOST_BYTES, MOST_GROUPS, MOST_MEMBERSHIPS,
-    MOST_UNITS,
+    MOST_UNITS, RUNNING, SHUT,
 };
 use crate::calls;
 use danivomel::{Counts, Limit, Limits, Range, Refusal};
@@ -15,11 +15,12 @@ pub struct Group {
     pub members: Vec<usize>,
 }
 
-/// A job: the ranges of its unit lines, and its groups.
+/// A job: the ranges of its unit lines, 0 to 0 for `(shut)`, with a mark for each, and its groups.
 #[derive(Clone, Debug, Default, PartialEq, Eq)]
 pub struct Job {
     pub lows: Vec<u64>,
     pub highs: Vec<u64>,
+    pub marks: Vec<u64>,
     pub groups: Vec<Group>,
 }
 
@@ -52,10 +53,11 @@ pub fn read_job(text: &[u8]) -> Result<Job, Refusal> {
 /// Adds one line, with its byte 10, to a job; or answers the lowest of 3 to 9 that applies to it.
 fn add_line(job: &mut Job, ended: &[u8]) -> Result<(), u64> {
     let line = ended.strip_suffix(b"\n").ok_or(3u64)?;
-    if let Some((low, high)) = unit_line(line) {
+    if let Some((low, high, mark)) = unit_line(line) {
         check_unit(job, low, high)?;
         job.lows.push(low);
         job.highs.push(high);
+        job.marks.push(mark);
         return Ok(());
     }
     let (total, limits, numbers) = group_line(line).ok_or(3u64)?;
@@ -65,7 +67,7 @@ fn add_line(job: &mut Job, ended: &[u8]) -> Result<(), u64> {
     Ok(())
 }
 
-/// The lowest of 4 to 7 that applies to a unit line.
+/// The lowest of 4 to 7 that applies to a unit line; `(shut)` has the range 0 to 0.
 fn check_unit(job: &Job, low: u64, high: u64) -> Result<(), u64> {
     if low > GREATEST_SHARE || high > GREATEST_SHARE {
         Err(4)
@@ -102,11 +104,14 @@ fn beyond(limit: Limit, greatest: u64) -> bool {
     matches!(limit, Limit::AtMost(most) if most > greatest)
 }
 
-/// The low and the high of a unit line, where the line is in that form.
-fn unit_line(line: &[u8]) -> Option<(u64, u64)> {
+/// The low, the high and the mark of a unit line, where the line is in one of its two forms.
+fn unit_line(line: &[u8]) -> Option<(u64, u64, u64)> {
+    if line == b"(shut)" {
+        return Some((0, 0, SHUT));
+    }
     let (low, rest) = number(line.strip_prefix(b"(unit ")?)?;
     let (high, rest) = number(rest.strip_prefix(b" ")?)?;
-    (rest == b")").then_some((low, high))
+    (rest == b")").then_some((low, high, RUNNING))
 }
 
 /// The total, the limits and the unit numbers of a group line, where the line is in that form.

@@ -30,8 +30,9 @@ fn report_lines(job: &Job, passes: u64, table: &[Range]) -> String {
     for (index, group) in job.groups.iter().enumerate() {
         let members: Vec<Range> = group.members.iter().map(|&unit| table[unit]).collect();
         let (lows, highs) = lists(&members);
+        let marks: Vec<u64> = group.members.iter().map(|&unit| job.marks[unit]).collect();
         let mut plan = vec![0; members.len()];
-        let levelled = level(&lows, &highs, group.total, &mut plan).expect("a settled group has a plan");
+        let levelled = level(&lows, &highs, &marks, group.total, &mut plan).expect("a settled group has a plan");
         let (deviation, spread) = (levelled.deviation.0, levelled.spread.0);
         let _ = write!(lines, "(group {} {} {deviation} {spread} (plan", index + 1, levelled.level);
         for share in plan {

@@ -3,7 +3,7 @@
 use super::reader::{read, read_job, Group};
 use super::report::refusal_line;
 use super::settle::{check_ranges, settle};
-use super::{MOST_BYTES, MOST_UNITS, SCRATCH_PER_UNIT};
+use super::{MOST_BYTES, MOST_UNITS, SCRATCH_PER_UNIT, SHUT};
 use danivomel::{Limit, Range, Refusal};
 use std::fmt::Write;
 
@@ -19,10 +19,13 @@ pub fn write(text: &[u8], table: &[Range], buffer: &mut [u8]) -> Result<usize, R
 pub fn written(text: &[u8], table: &[Range], buffer: usize) -> Result<Vec<u8>, Refusal> {
     let job = read_job(text)?;
     let ranges = table.get(..job.lows.len()).ok_or(Refusal { number: 1, place: 0 })?;
-    check_ranges(ranges)?;
+    check_ranges(ranges, &job.marks)?;
     let mut lines = String::new();
-    for range in ranges {
-        let _ = writeln!(lines, "(unit {} {})", range.low, range.high);
+    for (range, &mark) in ranges.iter().zip(&job.marks) {
+        let _ = match mark {
+            SHUT => writeln!(lines, "(shut)"),
+            _ => writeln!(lines, "(unit {} {})", range.low, range.high),
+        };
     }
     for group in &job.groups {
         add_group(&mut lines, group);

@@ -2,7 +2,7 @@
 //! buffer, after each.
 
 use super::faults::{each_combination, fault, Fault};
-use super::{marks, with_spare};
+use super::{fillers, with_spare};
 use crate::calls::{Read, Report, Settle, Write};
 use crate::check::{Checks, Topic};
 use danivomel::{Range, Refusal, Unsettled};
@@ -34,7 +34,7 @@ pub fn run_settle(checks: &mut Checks, who: &str, settle: Settle) {
     checks.topic("settle, refusals in every combination", who, |topic| {
         each_combination(&sound(), &settle_faults(), |call, refusal| {
             let mut after = call.clone();
-            let found = settle(call.text.as_bytes(), &mut after.table, &mut marks(call.scratch));
+            let found = settle(call.text.as_bytes(), &mut after.table, &mut fillers(call.scratch));
             topic.same(call, "refusal", found, Err(in_pass_one(refusal)));
             topic.same(call, "table after the refusal", &after, call);
         });
@@ -50,7 +50,7 @@ pub fn run_report(checks: &mut Checks, who: &str, report: Report) {
         let mut buffer = filled.clone();
         each_combination(&sound(), &faults, |call, refusal| {
             let mut after = call.clone();
-            let (text, scratch) = (call.text.as_bytes(), &mut marks(call.scratch));
+            let (text, scratch) = (call.text.as_bytes(), &mut fillers(call.scratch));
             let found = report(text, &mut after.table, scratch, &mut buffer[..call.buffer]);
             topic.same(call, "refusal", found, Err(in_pass_one(refusal)));
             topic.same(call, "table after the refusal", &after, call);
@@ -98,20 +98,20 @@ fn in_pass_one(refusal: Refusal) -> Unsettled {
 }
 
 /// What is written for the call without a fault.
-const WRITTEN: &str = "(unit 1 20)\n(unit 0 20)\n(unit 14 20)\n(group 21 (dev any) (spread any) (of 3 2))\n";
+const WRITTEN: &str = "(unit 1 20)\n(unit 0 20)\n(shut)\n(unit 14 20)\n(group 21 (dev any) (spread any) (of 4 3 2))\n";
 
-/// A call without a fault, on a table other than the unit lines.
+/// A call without a fault, on a table other than the unit lines; unit 3 is shut.
 fn sound() -> Call {
-    let text = "(unit 0 9)\n(unit 0 9)\n(unit 0 9)\n(group 21 (dev any) (spread any) (of 3 2))\n";
-    let table = with_spare(&[(1, 20), (0, 20), (14, 20)]);
-    Call { text: text.to_string(), table, scratch: 24, buffer: 65_536 }
+    let text = "(unit 0 9)\n(unit 0 9)\n(shut)\n(unit 0 9)\n(group 21 (dev any) (spread any) (of 4 3 2))\n";
+    let table = with_spare(&[(1, 20), (0, 20), (0, 0), (14, 20)]);
+    Call { text: text.to_string(), table, scratch: 32, buffer: 65_536 }
 }
 
 /// The faults of a settling in the order in which they are looked for.
 fn settle_faults() -> Vec<Fault<Call>> {
     let mut faults = text_faults();
     faults.extend(table_faults());
-    faults.push(fault(1, 0, |call| call.scratch = 23));
+    faults.push(fault(1, 0, |call| call.scratch = 31));
     faults.extend(range_faults());
     faults.push(fault(11, 1, |call| call.text = call.text.replace("group 21", "group 41")));
     faults.push(fault(12, 1, |call| call.text = call.text.replace("dev any", "dev 13")));
@@ -123,7 +123,7 @@ fn text_faults() -> Vec<Fault<Call>> {
     vec![
         fault(2, 0, |call| call.text.push_str(&"(".repeat(65_536))),
         fault(7, 2, |call| call.text = call.text.replacen("9)\n(unit 0 9", "9)\n(unit 9 0", 1)),
-        fault(3, 5, |call| call.text.push_str("(unit 0 0)")),
+        fault(3, 6, |call| call.text.push_str("(shut)")),
     ]
 }
 
@@ -134,8 +134,11 @@ fn bad_texts() -> Vec<(u64, u64, String)> {
         (2, 0, "(".repeat(65_537)),
         (3, 2, "(unit 0 9)\n(unit 0 9)".to_string()),
         (4, 1, "(unit 0 1000001)\n".to_string()),
+        (3, 2, "(unit 0 9)\n(shut 0 0)\n".to_string()),
         (5, 3, group("1") + "(unit 0 9)\n"),
+        (5, 3, group("1") + "(shut)\n"),
         (6, 257, "(unit 0 9)\n".repeat(257)),
+        (6, 257, "(shut)\n".repeat(257)),
         (7, 1, "(unit 9 0)\n".to_string()),
         (8, 2, group("2")),
         (9, 2, group("1 1")),
@@ -147,13 +150,16 @@ fn bad_texts() -> Vec<(u64, u64, String)> {
 fn range_faults() -> Vec<Fault<Call>> {
     vec![
         fault(4, 1, |call| call.table[0].low = 1_000_001),
-        fault(4, 3, |call| call.table[2].high = u64::MAX),
+        fault(4, 3, |call| call.table[2].high = 1_000_001),
+        fault(4, 4, |call| call.table[3].high = u64::MAX),
         fault(7, 1, |call| call.table[0].high = 0),
         fault(7, 2, |call| call.table[1].low = 21),
+        fault(7, 3, |call| call.table[2].high = 1),
+        fault(7, 4, |call| call.table[3].high = 13),
     ]
 }
 
 /// A table too short for the units.
 fn table_faults() -> Vec<Fault<Call>> {
-    vec![fault(1, 0, |call| call.table.truncate(2)), fault(1, 0, |call| call.table.truncate(0))]
+    vec![fault(1, 0, |call| call.table.truncate(3)), fault(1, 0, |call| call.table.truncate(0))]
 }

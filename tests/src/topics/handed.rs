@@ -2,7 +2,7 @@
 //! settled job that was written is at rest.
 
 use super::read::Shown;
-use super::{marked, marks, pairs_of, with_spare};
+use super::{filler_table, fillers, pairs_of, with_spare};
 use crate::calls::{self, OnTexts, Report, Write};
 use crate::cases::damage::damage;
 use crate::cases::jobs::{print_job, sound, MIDDLE, TINY, WIDE};
@@ -31,7 +31,7 @@ fn written(write: Write, text: &[u8], table: &[Range]) -> Result<Vec<u8>, Refusa
 /// The report of a job over a table, which it settles.
 fn reported(report: Report, text: &[u8], table: &mut [Range]) -> Result<String, Unsettled> {
     let mut buffer = vec![0; MOST_BYTES];
-    let length = report(text, table, &mut marks(SCRATCH_PER_UNIT * table.len()), &mut buffer)?.length;
+    let length = report(text, table, &mut fillers(SCRATCH_PER_UNIT * table.len()), &mut buffer)?.length;
     Ok(String::from_utf8_lossy(&buffer[..length]).into())
 }
 
@@ -41,12 +41,13 @@ fn read_again(topic: &mut Topic, planner: OnTexts) {
         let job = sound(&mut topic.random, [TINY, MIDDLE, WIDE][round % 3]);
         let lent = ranges(&mut topic.random, &job);
         let text = written(planner.write, &print_job(&job), &lent).unwrap_or_default();
-        let mut table = marked(lent.len() + 2);
+        let mut table = filler_table(lent.len() + 2);
         let counts = (planner.read)(&text, &mut table);
         let case = (&job, &lent);
         topic.same(&case, "counts", counts, Ok(Counts { units: lent.len(), groups: job.groups.len() }));
         topic.same(&case, "ranges", table, with_spare(&pairs_of(&lent)));
-        topic.same(&case, "groups", read_job(&text).map(|job| job.groups), Ok(job.groups.clone()));
+        let again = read_job(&text).map(|job| (job.marks, job.groups));
+        topic.same(&case, "shut units and groups", again, Ok((job.marks.clone(), job.groups.clone())));
         topic.same(&case, "written again", written(planner.write, &text, &lent), Ok(text));
     }
 }
@@ -59,7 +60,7 @@ fn itself(topic: &mut Topic, planner: OnTexts) {
         for _ in 0..topic.random.between(0, 2) {
             damage(&mut topic.random, &mut text);
         }
-        let mut table = marked(64);
+        let mut table = filler_table(64);
         let expected = (planner.read)(&text, &mut table).map(|_| text.clone());
         topic.same(&Shown(&text), "written", written(planner.write, &text, &table), expected);
     }
@@ -91,11 +92,11 @@ fn settled_jobs(topic: &mut Topic, planner: OnTexts) {
 /// The text of a settled job opens with the settled table, settles in one pass that leaves it, and has the same unit
 /// and group lines in its report.
 fn handed(topic: &mut Topic, planner: OnTexts, job: &Job, text: &[u8], settled: &[Range], report: &str) {
-    let mut table = marked(settled.len());
+    let mut table = filler_table(settled.len());
     let counts = (planner.read)(text, &mut table);
     topic.same(job, "counts", counts, Ok(Counts { units: settled.len(), groups: job.groups.len() }));
     topic.same(job, "table read", &table[..], settled);
-    let passes = (planner.settle)(text, &mut table, &mut marks(SCRATCH_PER_UNIT * settled.len()));
+    let passes = (planner.settle)(text, &mut table, &mut fillers(SCRATCH_PER_UNIT * settled.len()));
     topic.same(job, "passes", passes, Ok(1));
     topic.same(job, "table settled", &table[..], settled);
     let lines = report.split_once('\n').map_or("", |(_, lines)| lines);
@@ -106,8 +107,8 @@ fn handed(topic: &mut Topic, planner: OnTexts, job: &Job, text: &[u8], settled: 
 
 /// The text of a small settled job is at rest by enumeration too.
 fn enumerated(topic: &mut Topic, text: &[u8], settled: &[Range]) {
-    let groups = read_job(text).map(|job| job.groups).unwrap_or_default();
+    let job = read_job(text).unwrap_or_default();
     let mut table = pairs_of(settled);
-    topic.same(&Shown(text), "passes by enumeration", enumerate::settle(&groups, &mut table), Ok(1));
+    topic.same(&Shown(text), "passes by enumeration", enumerate::settle(&job, &mut table), Ok(1));
     topic.same(&Shown(text), "table by enumeration", table, pairs_of(settled));
 }

@@ -1,10 +1,10 @@
 //! Levelling one group: the known shares, enumeration, the edges of every range, and laws of large groups.
 
-use super::marks;
+use super::fillers;
 use crate::calls::Level;
 use crate::cases::groups::{large, small, GroupCase};
 use crate::check::{Checks, Topic};
-use crate::enumerate::{self, above, deviation, deviation_bound, share_lists, spread, total_at};
+use crate::enumerate::{self, above, deviation, deviation_bound, running, share_lists, spread, total_at};
 use crate::independent::{self, GREATEST_SHARE, MOST_UNITS};
 use danivomel::{Deviation, Levelled, Refusal, Spread};
 
@@ -27,7 +27,7 @@ pub fn compare(checks: &mut Checks, who: &str, level: Level) {
         for _ in 0..20_000 {
             let case = large(&mut topic.random, MOST_UNITS);
             let mut shares = vec![0; case.lows.len()];
-            let answer = independent::level(&case.lows, &case.highs, case.total, &mut shares);
+            let answer = independent::level(&case.lows, &case.highs, &case.marks, case.total, &mut shares);
             check(topic, level, &case, 3, answer.map(|levelled| (levelled, shares)));
         }
     });
@@ -36,9 +36,9 @@ pub fn compare(checks: &mut Checks, who: &str, level: Level) {
 /// Levels into a plan list with spare numbers, and compares the answer and the whole list.
 fn check(topic: &mut Topic, level: Level, case: &GroupCase, spare: usize, expected: Expected) {
     let n = case.lows.len();
-    let before = marks(n + spare);
+    let before = fillers(n + spare);
     let mut plan = before.clone();
-    let found = level(&case.lows, &case.highs, case.total, &mut plan);
+    let found = level(&case.lows, &case.highs, &case.marks, case.total, &mut plan);
     let mut after = before;
     if let Ok((_, shares)) = &expected {
         after[..n].copy_from_slice(shares);
@@ -79,12 +79,14 @@ fn known(topic: &mut Topic, level: Level) {
 
 /// What enumeration says of a levelling.
 fn by_enumeration(case: &GroupCase, lists: &[Vec<u64>]) -> Expected {
-    let plan = match enumerate::levelled(lists, case.total) {
+    let plan = match enumerate::levelled(lists, &case.marks, case.total) {
         Some(plan) => plan,
         None => return refused(11, 0),
     };
     let level = enumerate::level(&case.ranges(), case.total).expect("the lows are within the total");
-    Ok((Levelled { level, deviation: deviation(plan, case.total), spread: spread(plan, case.total) }, plan.clone()))
+    let shares = running(plan, &case.marks);
+    let (deviation, spread) = (deviation(&shares, case.total), spread(&shares, case.total));
+    Ok((Levelled { level, deviation, spread }, plan.clone()))
 }
 
 /// 002's example for every total, and beyond.
@@ -103,16 +105,22 @@ fn enumerated(topic: &mut Topic, level: Level) {
         let lists = share_lists(&case.ranges(), case.total);
         let expected = by_enumeration(&case, &lists);
         if let Ok((levelled, plan)) = &expected {
-            let least = lists.iter().map(|list| deviation(list, case.total)).min();
-            topic.same(&case, "least deviation", least, Some(levelled.deviation));
-            let lowest = case.lows.iter().min().copied().unwrap_or(0);
-            for t in lowest..lowest + 18 {
-                let least = lists.iter().map(|list| above(list, t)).min();
-                topic.same(&case, "least total above t", least, Some(above(plan, t)));
-            }
+            least_of_all(topic, &case, &lists, levelled.deviation, plan);
         }
         let spare = topic.random.index(4);
         check(topic, level, &case, spare, expected);
+    }
+}
+
+/// No share list has a lesser deviation, or less in total above any t; both are the running members'.
+fn least_of_all(topic: &mut Topic, case: &GroupCase, lists: &[Vec<u64>], found: Deviation, plan: &[u64]) {
+    let lists: Vec<Vec<u64>> = lists.iter().map(|list| running(list, &case.marks)).collect();
+    let least = lists.iter().map(|list| deviation(list, case.total)).min();
+    topic.same(case, "least deviation", least, Some(found));
+    let lowest = running(&case.lows, &case.marks).into_iter().min().unwrap_or(0);
+    for t in lowest..lowest + 18 {
+        let least = lists.iter().map(|list| above(list, t)).min();
+        topic.same(case, "least total above t", least, Some(above(&running(plan, &case.marks), t)));
     }
 }
 
@@ -122,8 +130,8 @@ fn every_value(topic: &mut Topic, level: Level) {
         let case = large(&mut topic.random, 8);
         let ranges = case.ranges();
         let greatest = (0..=GREATEST_SHARE).rev().find(|&v| total_at(&ranges, v) <= case.total);
-        let mut plan = marks(8);
-        match level(&case.lows, &case.highs, case.total, &mut plan) {
+        let mut plan = fillers(8);
+        match level(&case.lows, &case.highs, &case.marks, case.total, &mut plan) {
             Ok(levelled) => topic.same(&case, "level", Some(levelled.level), greatest),
             Err(refusal) => topic.same(&case, "refusal", refusal, Refusal { number: 11, place: 0 }),
         }
@@ -168,7 +176,7 @@ fn laws(topic: &mut Topic, level: Level) {
         let case = large(&mut topic.random, MOST_UNITS);
         let ranges = case.ranges();
         let mut plan = vec![0; ranges.len()];
-        match level(&case.lows, &case.highs, case.total, &mut plan) {
+        match level(&case.lows, &case.highs, &case.marks, case.total, &mut plan) {
             Ok(levelled) => levelled_by_law(topic, &case, levelled, &plan),
             Err(refusal) => {
                 let apart = total_at(&ranges, 0) > case.total || total_at(&ranges, GREATEST_SHARE) < case.total;
@@ -192,9 +200,10 @@ fn levelled_by_law(topic: &mut Topic, case: &GroupCase, levelled: Levelled, plan
         topic.same(case, "share", plan[member], v.min(high).max(low) + more);
     }
     topic.same(case, "total", plan.iter().sum::<u64>(), case.total);
-    topic.same(case, "deviation", levelled.deviation, deviation(plan, case.total));
-    topic.same(case, "spread", levelled.spread, spread(plan, case.total));
-    let bound = deviation_bound(&ranges, case.total);
-    let divides = case.total % ranges.len() as u64 == 0;
+    let shares = running(plan, &case.marks);
+    topic.same(case, "deviation", levelled.deviation, deviation(&shares, case.total));
+    topic.same(case, "spread", levelled.spread, spread(&shares, case.total));
+    let bound = deviation_bound(&running(&ranges, &case.marks), case.total);
+    let divides = shares.is_empty() || case.total % shares.len() as u64 == 0;
     topic.holds(case, "bound", levelled.deviation.0 >= bound && (!divides || levelled.deviation.0 == bound));
 }

@@ -7,6 +7,7 @@ use crate::check::{Checks, Topic};
 /// Tries the order of a planner's refusals while reading.
 pub fn run(checks: &mut Checks, who: &str, read: Read) {
     checks.topic("read, sets of faults on a unit line", who, |topic| unit_sets(topic, read));
+    checks.topic("read, sets of faults on a shut unit's line", who, |topic| shut_sets(topic, read));
     checks.topic("read, sets of faults on a group line", who, |topic| group_sets(topic, read));
     checks.topic("read, the first bad line decides", who, |topic| line_pairs(topic, read));
     checks.topic("read, breaches of form", who, |topic| forms(topic, read));
@@ -46,6 +47,25 @@ fn unit_sets(topic: &mut Topic, read: Read) {
     }
 }
 
+/// Shut units' lines with each set of the faults 3, 5 and 6, after unit lines of both forms.
+fn shut_sets(topic: &mut Topic, read: Read) {
+    let numbers = [3, 3, 3, 5, 6];
+    for set in 1u32..1 << numbers.len() {
+        for before in ["(unit 0 9)\n", "(shut)\n"] {
+            let mut text = before.repeat(if has(set, 4) { 256 } else { 1 });
+            if has(set, 3) {
+                text.push_str("(group 0 (dev any) (spread any) (of 1))\n");
+            }
+            let line = text.lines().count() as u64 + 1;
+            let word = if has(set, 0) { "Shut" } else { "shut" };
+            let range = if has(set, 1) { " 0 0" } else { "" };
+            let end = if has(set, 2) { " )" } else { ")" };
+            text.push_str(&format!("({word}{range}{end}\n"));
+            refused(topic, read, text.as_bytes(), lowest(set, &numbers), line);
+        }
+    }
+}
+
 /// Group lines with each set of the faults 3, 4, 6, 8 and 9.
 fn group_sets(topic: &mut Topic, read: Read) {
     let numbers = [3, 3, 4, 4, 4, 6, 6, 8, 8, 9];
@@ -80,6 +100,8 @@ fn line_pairs(topic: &mut Topic, read: Read) {
         (4, "(unit 0 1000001)\n".to_string()),
         (4, group("256000001 (dev any) (spread any) (of 1)")),
         (5, "(unit 0 9)\n".to_string()),
+        (5, "(shut)\n".to_string()),
+        (3, "(shut 0 0)\n".to_string()),
         (8, group("5 (dev any) (spread any) (of 1 0)")),
         (9, group("5 (dev any) (spread any) (of 1 2 1)")),
     ];
@@ -94,12 +116,17 @@ fn line_pairs(topic: &mut Topic, read: Read) {
     }
     refused(topic, read, b"(unit 9 0)\n(unit 0 1000001)\n", 7, 1);
     refused(topic, read, b"(unit 0 1000001)\n(unit 9 0)\n", 4, 1);
+    refused(topic, read, b"(shut)\n(unit 9 0)\n(shut 0)\n", 7, 2);
 }
 
 /// Each byte of sound lines deleted, doubled, or replaced by a byte of each kind: all but a few are breaches of form.
 fn forms(topic: &mut Topic, read: Read) {
-    let lines =
-        ["(unit 10 25)\n", "(group 30 (dev 41) (spread any) (of 1 2))\n", "(group 30 (dev any) (spread 56) (of 2))\n"];
+    let lines = [
+        "(unit 10 25)\n",
+        "(shut)\n",
+        "(group 30 (dev 41) (spread any) (of 1 2))\n",
+        "(group 30 (dev any) (spread 56) (of 2))\n",
+    ];
     let opening = "(unit 0 99)\n(unit 0 99)\n";
     for line in lines {
         for at in 0..line.len() {

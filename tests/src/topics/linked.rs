@@ -1,5 +1,5 @@
-//! What is linked with the archive: programs in C over the header, the evening's change and the job handed on from C
-//! and from Rust, and the documentation examples and the words of the package for Rust.
+//! What is linked with the archive: programs in C over the header, the evening's change, the job handed on and the shut
+//! unit from C and from Rust, and the documentation examples and the words of the package for Rust.
 
 use crate::check::{Checks, Topic};
 use danivomel::Refusal;
@@ -14,6 +14,9 @@ pub const EVENINGS: [&str; 2] = ["tests/target/evening", "tests/target/release/e
 /// The evening's job handed on from C and from Rust, likewise.
 pub const HANDED_ON: [&str; 2] = ["tests/target/handed_on", "tests/target/release/examples/handed_on"];
 
+/// A shut unit from C and from Rust, likewise.
+pub const SHUT: [&str; 2] = ["tests/target/shut", "tests/target/release/examples/shut"];
+
 /// Tries all of them.
 pub fn run(checks: &mut Checks) {
     checks.topic("program in C", "planner", |topic| {
@@ -27,6 +30,7 @@ pub fn run(checks: &mut Checks) {
         );
     });
     checks.topic("press from C", "planner", press);
+    checks.topic("shut unit, from C and Rust", "planner", shut);
     checks.topic("evening's change, from C and Rust", "planner", |topic| changes(topic, EVENINGS, "evening"));
     checks.topic("job handed on, from C and Rust", "planner", |topic| changes(topic, HANDED_ON, "handed_on"));
     checks.topic("documentation examples", "planner", documentation);
@@ -44,6 +48,18 @@ fn press(topic: &mut Topic) {
     let lines = report.split_once('\n').expect("the report has lines").1;
     let run = output(PRESS, &[]);
     topic.same(&PRESS, "written", (String::from_utf8_lossy(&run.stdout), run.status.success()), (lines.into(), true));
+}
+
+/// Both programs write what the example's file has, which has the lines of the example's report in it.
+fn shut(topic: &mut Topic) {
+    let [written, report] =
+        ["shut.txt", "off-shut.report"].map(|name| std::fs::read_to_string(format!("examples/{name}")).expect(name));
+    topic.holds(&written, "the report's lines", written.contains(&report));
+    for program in SHUT {
+        let run = output(program, &[]);
+        let found = (String::from_utf8_lossy(&run.stdout), run.status.success());
+        topic.same(&program, "written", found, (written.as_str().into(), true));
+    }
 }
 
 /// Both programs write what the example's file has, and a wrong call gets one line and a status.

@@ -9,29 +9,31 @@ pub mod level;
 pub mod lines;
 pub mod linked;
 pub mod lists;
+pub mod marks;
 pub mod narrow;
 pub mod program;
 pub mod read;
 pub mod report;
 pub mod settle;
+pub mod shut;
 pub mod tables;
 pub mod write;
 
 use danivomel::Range;
 
 /// A value that no call writes, to see that a number kept its value.
-pub fn mark(index: usize) -> u64 {
+pub fn filler(index: usize) -> u64 {
     u64::MAX - 1_000 - index as u64
 }
 
 /// A list of such values.
-pub fn marks(length: usize) -> Vec<u64> {
-    (0..length).map(mark).collect()
+pub fn fillers(length: usize) -> Vec<u64> {
+    (0..length).map(filler).collect()
 }
 
 /// A table of such values.
-pub fn marked(length: usize) -> Vec<Range> {
-    (0..length).map(|unit| Range { low: mark(2 * unit), high: mark(2 * unit + 1) }).collect()
+pub fn filler_table(length: usize) -> Vec<Range> {
+    (0..length).map(|unit| Range { low: filler(2 * unit), high: filler(2 * unit + 1) }).collect()
 }
 
 /// A table of ranges that are given as pairs.
@@ -41,7 +43,7 @@ pub fn table_of(pairs: &[(u64, u64)]) -> Vec<Range> {
 
 /// The same with two entries past the units.
 pub fn with_spare(pairs: &[(u64, u64)]) -> Vec<Range> {
-    let mut table = marked(pairs.len() + 2);
+    let mut table = filler_table(pairs.len() + 2);
     table[..pairs.len()].copy_from_slice(&table_of(pairs));
     table
 }

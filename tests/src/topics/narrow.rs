@@ -4,7 +4,8 @@ use crate::calls::Narrow;
 use crate::cases::groups::{large, limits_near, limits_of, small, GroupCase};
 use crate::check::{Checks, Topic};
 use crate::enumerate::{plans, share_lists, values_taken, Range};
-use crate::independent::{self, narrow::taken, MOST_UNITS};
+use crate::independent::narrow::{taken, Terms};
+use crate::independent::{self, MOST_UNITS};
 use danivomel::{Limit, Refusal};
 use Limit::{Any, AtMost};
 
@@ -38,7 +39,7 @@ pub fn compare(checks: &mut Checks, who: &str, narrow: Narrow) {
 /// Narrows a copy of a group.
 fn narrowed(narrow: Narrow, case: &GroupCase) -> (Result<(), Refusal>, GroupCase) {
     let mut after = case.clone();
-    let answer = narrow(&mut after.lows, &mut after.highs, case.total, case.limits);
+    let answer = narrow(&mut after.lows, &mut after.highs, &case.marks, case.total, case.limits);
     (answer, after)
 }
 
@@ -113,7 +114,7 @@ fn by_enumeration(topic: &mut Topic, case: &GroupCase) -> Expected {
     if share_lists(&ranges, case.total).is_empty() {
         return refused(11);
     }
-    let plans = plans(&ranges, case.total, case.limits);
+    let plans = plans(&ranges, &case.marks, case.total, case.limits);
     if plans.is_empty() {
         return refused(12);
     }
@@ -145,7 +146,7 @@ fn enumerated(topic: &mut Topic, narrow: Narrow) {
     for _ in 0..12_000 {
         let mut case = small(&mut topic.random);
         let lists = share_lists(&case.ranges(), case.total);
-        case.limits = limits_near(&mut topic.random, &lists, case.total);
+        case.limits = limits_near(&mut topic.random, &lists, &case);
         let expected = by_enumeration(topic, &case);
         check(topic, narrow, &case, expected);
     }
@@ -196,6 +197,7 @@ fn laws(topic: &mut Topic, narrow: Narrow) {
             let mut turned = case.clone();
             turned.lows.reverse();
             turned.highs.reverse();
+            turned.marks.reverse();
             let ranges = after.ranges().into_iter().rev().collect();
             check(topic, narrow, &turned, Ok(ranges));
         }
@@ -204,8 +206,9 @@ fn laws(topic: &mut Topic, narrow: Narrow) {
 
 /// Each end of a narrowed range is taken by some plan of the group as it was, and no value next to it outside is.
 fn ends_are_taken(topic: &mut Topic, case: &GroupCase, after: &GroupCase) {
-    let GroupCase { mut lows, mut highs, total, limits } = case.clone();
-    let mut is_taken = |member: usize, value: u64| taken(&mut lows, &mut highs, total, limits, member, value);
+    let (mut lows, mut highs) = (case.lows.clone(), case.highs.clone());
+    let terms = Terms { marks: &case.marks, total: case.total, limits: case.limits };
+    let mut is_taken = |member: usize, value: u64| taken(&mut lows, &mut highs, terms, member, value);
     for (member, (low, high)) in after.ranges().into_iter().enumerate() {
         topic.holds(case, "low taken", case.lows[member] <= low && is_taken(member, low));
         topic.holds(case, "high taken", high <= case.highs[member] && is_taken(member, high));

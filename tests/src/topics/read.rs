@@ -1,6 +1,6 @@
 //! Reading job texts: sound jobs, damaged ones, and the edges of every range from both sides.
 
-use super::marked;
+use super::filler_table;
 use crate::calls::{self, Read};
 use crate::cases::damage::damage;
 use crate::cases::jobs::{print_job, sound, MIDDLE, TINY, WIDE};
@@ -39,7 +39,7 @@ pub fn compare(checks: &mut Checks, who: &str, read: Read) {
 
 /// Reads into a table of a given length; the answer and the table after the call.
 fn attempt(read: Read, text: &[u8], length: usize) -> (Result<Counts, Refusal>, Vec<Range>) {
-    let mut table = marked(length);
+    let mut table = filler_table(length);
     let answer = read(text, &mut table);
     (answer, table)
 }
@@ -47,14 +47,14 @@ fn attempt(read: Read, text: &[u8], length: usize) -> (Result<Counts, Refusal>, 
 /// Checks a refusal, and that the table kept its values.
 pub fn refused(topic: &mut Topic, read: Read, text: &[u8], number: u64, place: u64) {
     let found = attempt(read, text, 256);
-    topic.same(&Shown(text), "refusal", found, (Err(Refusal { number, place }), marked(256)));
+    topic.same(&Shown(text), "refusal", found, (Err(Refusal { number, place }), filler_table(256)));
 }
 
 /// Checks that a text is read as a number of units and groups.
 fn accepted(topic: &mut Topic, read: Read, text: &[u8], units: usize, groups: usize) {
     let (answer, table) = attempt(read, text, 256);
     topic.same(&Shown(text), "counts", answer, Ok(Counts { units, groups }));
-    topic.same(&Shown(text), "entries past the units", &table[units..], &marked(256)[units..]);
+    topic.same(&Shown(text), "entries past the units", &table[units..], &filler_table(256)[units..]);
 }
 
 /// Jobs that were printed: the ranges come back, and what is past them keeps its value; a table too short is 1.
@@ -64,13 +64,13 @@ fn sound_jobs(topic: &mut Topic, read: Read) {
         let job = sound(&mut topic.random, size);
         let text = print_job(&job);
         let units = job.lows.len();
-        let mut filled = marked(units + 2);
+        let mut filled = filler_table(units + 2);
         filled[..units].copy_from_slice(&calls::table(&job.lows, &job.highs));
         let counts = Counts { units, groups: job.groups.len() };
         topic.same(&job, "answer and table", attempt(read, &text, units + 2), (Ok(counts), filled));
         let short = attempt(read, &text, units - 1);
         let refusal = Err(Refusal { number: 1, place: 0 });
-        topic.same(&job, "table too short", short, (refusal, marked(units - 1)));
+        topic.same(&job, "table too short", short, (refusal, filler_table(units - 1)));
     }
 }
 
@@ -128,11 +128,42 @@ fn edges(topic: &mut Topic, read: Read) {
         }
     }
     length_edges(topic, read);
+    shut_edges(topic, read);
     refused(topic, read, b"", 10, 0);
     refused(topic, read, b"\n", 3, 1);
     refused(topic, read, b"(unit 0 9)", 3, 1);
     refused(topic, read, b"(unit 0 9)\n(unit 0 9)", 3, 2);
     refused(topic, read, group.as_bytes(), 8, 1);
+}
+
+/// Shut units count as units, and as members; a job of them alone is not empty.
+fn shut_edges(topic: &mut Topic, read: Read) {
+    let (unit, shut, group) = ("(unit 0 9)\n", "(shut)\n", "(group 0 (dev any) (spread any) (of 1 2))\n");
+    accepted(topic, read, shut.as_bytes(), 1, 0);
+    accepted(topic, read, &repeated("", shut, 256, ""), 256, 0);
+    accepted(topic, read, &repeated(unit, shut, 255, ""), 256, 0);
+    accepted(topic, read, &repeated(shut, unit, 255, group), 256, 1);
+    refused(topic, read, &repeated("", shut, 257, ""), 6, 257);
+    refused(topic, read, &repeated("", unit, 256, shut), 6, 257);
+    refused(topic, read, &repeated("", shut, 256, unit), 6, 257);
+    refused(topic, read, format!("{shut}{unit}{group}{shut}").as_bytes(), 5, 4);
+    let all: Vec<String> = (1..=64).map(|number| number.to_string()).collect();
+    let wide = format!("(group 0 (dev any) (spread any) (of {}))\n", all.join(" "));
+    let units = shut.repeat(64);
+    accepted(topic, read, &repeated(&units, &wide, 64, ""), 64, 64);
+    refused(topic, read, &repeated(&units, &wide, 63, &wide.replace(" 64)", " 64 1)")), 6, 128);
+    for (members, number) in [("1", 0), ("2 1", 0), ("3", 8), ("0", 8), ("1 1", 9)] {
+        let text = format!("{shut}{unit}(group 0 (dev any) (spread any) (of {members}))\n");
+        match number {
+            0 => accepted(topic, read, text.as_bytes(), 2, 1),
+            _ => refused(topic, read, text.as_bytes(), number, 3),
+        }
+    }
+    for line in
+        ["(shut)", "shut\n", "(shut\n", "shut)\n", "( shut)\n", "(shut )\n", "(shut) \n", "(shut))\n", "(shuts)\n"]
+    {
+        refused(topic, read, format!("{unit}{line}").as_bytes(), 3, 2);
+    }
 }
 
 /// Second lines with a number at or next to an edge, and their refusal, 0 where there is none.
@@ -164,7 +195,7 @@ fn length_edges(topic: &mut Topic, read: Read) {
     refused(topic, read, &line(65_537), 2, 0);
     refused(topic, read, &[b'x'; 65_537], 2, 0);
     refused(topic, read, &[b'x'; 65_536], 3, 1);
-    let job = Job { lows: vec![0; 256], highs: vec![1_000_000; 256], groups: vec![] };
+    let job = Job { lows: vec![0; 256], highs: vec![1_000_000; 256], marks: vec![0; 256], groups: vec![] };
     let text = print_job(&job);
     topic.holds(&job, "a job of units alone is short", text.len() < 65_536);
     accepted(topic, read, &text, 256, 0);

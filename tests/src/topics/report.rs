@@ -2,7 +2,7 @@
 
 use super::read::Shown;
 use super::settle::WORKED;
-use super::{marks, with_spare};
+use super::{fillers, with_spare};
 use crate::calls::Report;
 use crate::cases::jobs::{print_job, sound, MIDDLE, TINY};
 use crate::check::{Checks, Topic};
@@ -48,7 +48,7 @@ fn opening_of(job: &Job) -> Vec<Range> {
 /// Reports on a table with entries past the units into a filled buffer.
 fn attempt(report: Report, text: &[u8], opening: &[Range], length: usize) -> Left {
     let mut table = with_spare(opening);
-    let mut scratch = marks(8 * opening.len());
+    let mut scratch = fillers(8 * opening.len());
     let mut buffer = vec![FILL; length];
     let answer = report(text, &mut table, &mut scratch, &mut buffer);
     (answer, table, buffer)
@@ -89,11 +89,14 @@ fn by_enumeration(job: &Job, passes: u64, table: &[Range]) -> String {
         lines.push(format!("(unit {} {low} {high})", unit + 1));
     }
     for (index, group) in job.groups.iter().enumerate() {
-        let ranges: Vec<Range> = group.members.iter().map(|&unit| table[unit]).collect();
+        let ranges = enumerate::of_members(group, table);
+        let marks = enumerate::of_members(group, &job.marks);
         let lists = enumerate::share_lists(&ranges, group.total);
-        let plan = enumerate::levelled(&lists, group.total).expect("a settled group has a plan");
+        let plan = enumerate::levelled(&lists, &marks, group.total).expect("a settled group has a plan");
         let level = enumerate::level(&ranges, group.total).expect("a settled group has a plan");
-        let (deviation, spread) = (enumerate::deviation(plan, group.total).0, enumerate::spread(plan, group.total).0);
+        let running = enumerate::running(plan, &marks);
+        let deviation = enumerate::deviation(&running, group.total).0;
+        let spread = enumerate::spread(&running, group.total).0;
         let shares: Vec<String> = plan.iter().map(u64::to_string).collect();
         lines.push(format!("(group {} {level} {deviation} {spread} (plan {}))", index + 1, shares.join(" ")));
     }
@@ -107,7 +110,7 @@ fn enumerated(topic: &mut Topic, report: Report) {
         let text = print_job(&job);
         let opening = opening_of(&job);
         let mut table = opening.clone();
-        match enumerate::settle(&job.groups, &mut table) {
+        match enumerate::settle(&job, &mut table) {
             Ok(passes) => check(topic, report, &text, &opening, (passes, &by_enumeration(&job, passes, &table), table)),
             Err((number, place, passes)) => {
                 refused(
@@ -136,7 +139,7 @@ fn largest(topic: &mut Topic, report: Report) {
     let range = |unit: usize| if unit % 2 == 0 { (1_000_000, 1_000_000) } else { (100_000, 100_000) };
     let opening: Vec<Range> = (0..256).map(range).collect();
     let (lows, highs) = opening.iter().copied().unzip();
-    let mut job = Job { lows, highs, groups: vec![] };
+    let mut job = Job { lows, highs, marks: vec![0; 256], groups: vec![] };
     for group in 0..64 {
         let members: Vec<usize> = (0..64).map(|member| (group * 4 + member) % 256).collect();
         let total = members.iter().map(|&unit| opening[unit].0).sum();

@@ -1,7 +1,7 @@
 //! Settling jobs: the worked jobs, slow jobs, and what a call leaves in the table.
 
 use super::read::Shown;
-use super::{marks, pairs_of, table_of, with_spare};
+use super::{fillers, pairs_of, table_of, with_spare};
 use crate::calls::Settle;
 use crate::cases::jobs::{other_table, print_job, sound, MIDDLE, WIDE};
 use crate::check::{Checks, Topic};
@@ -47,7 +47,7 @@ pub fn check(topic: &mut Topic, settle: Settle, text: &[u8], opening: &[Range], 
         Ok((_, settled)) => with_spare(settled),
         Err(_) => table.clone(),
     };
-    let mut scratch = marks(8 * opening.len() + topic.random.index(3));
+    let mut scratch = fillers(8 * opening.len() + topic.random.index(3));
     let found = settle(text, &mut table, &mut scratch);
     let case = (Shown(text), opening);
     topic.same(&case, "answer", found, expected.map(|(passes, _)| passes));
@@ -67,8 +67,8 @@ fn known(topic: &mut Topic, settle: Settle) {
     check(topic, settle, WORKED.as_bytes(), &[(0, 10), (0, 10), (9, 10)], no_plan(11, 2, 1));
     // settled is not solvable: at rest at the outset, and yet no shares suit all three groups
     check(topic, settle, PAIRS.as_bytes(), &[(0, 1); 3], Ok((1, vec![(0, 1); 3])));
-    let groups = read_job(PAIRS.as_bytes()).map(|job| job.groups).unwrap_or_default();
-    topic.same(&PAIRS, "shares that suit all groups", (groups.len(), suits_all(&groups, &[(0, 1); 3])), (3, false));
+    let job = read_job(PAIRS.as_bytes()).unwrap_or_default();
+    topic.same(&PAIRS, "shares that suit all groups", (job.groups.len(), suits_all(&job, &[(0, 1); 3])), (3, false));
     check(topic, settle, b"(unit 0 5)\n", &[(2, 3)], Ok((1, vec![(2, 3)])));
     check(
         topic,
@@ -88,8 +88,8 @@ fn slow(topic: &mut Topic, settle: Settle) {
         let (place, passes) = (2 - width % 2, (width + 1) / 2 + 1);
         check(topic, settle, text.as_bytes(), &[(0, width); 2], no_plan(11, place, passes));
         if width <= 12 {
-            let groups = read_job(text.as_bytes()).map(|job| job.groups).unwrap_or_default();
-            let found = enumerate::settle(&groups, &mut vec![(0, width); 2]);
+            let job = read_job(text.as_bytes()).unwrap_or_default();
+            let found = enumerate::settle(&job, &mut vec![(0, width); 2]);
             topic.same(&text, "passes by enumeration", found, Err((11, place, passes)));
         }
     }

@@ -31,8 +31,8 @@ fn enumerated(topic: &mut Topic, settle: Settle) {
         let job = sound(&mut topic.random, TINY);
         let opening = opening_of(topic, &job);
         let mut table = opening.clone();
-        let answer = enumerate::settle(&job.groups, &mut table);
-        let at_rest = tables_at_rest(&job.groups, &opening);
+        let answer = enumerate::settle(&job, &mut table);
+        let at_rest = tables_at_rest(&job, &opening);
         let case = (&job, &opening);
         match answer {
             Ok(_) => {

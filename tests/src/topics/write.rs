@@ -3,7 +3,7 @@
 
 use super::read::Shown;
 use super::settle::WORKED;
-use super::{marked, table_of, with_spare};
+use super::{filler_table, table_of, with_spare};
 use crate::calls::Write;
 use crate::cases::damage::damage;
 use crate::cases::jobs::{print_job, sound, MIDDLE, TINY, WIDE};
@@ -18,7 +18,7 @@ use danivomel::{Limit, Limits, Range, Refusal, WRITTEN_BYTES};
 type Expected = Result<Vec<u8>, Refusal>;
 
 /// A text, a table's ranges as pairs, and what is written of them.
-type Known<'a> = (&'a str, &'a [(u64, u64)], &'a str);
+pub type Known<'a> = (&'a str, &'a [(u64, u64)], &'a str);
 
 /// Who says what a writing should answer, for a text, a table and a buffer of so many bytes.
 type Judge = fn(&[u8], &[Range], usize) -> Expected;
@@ -142,7 +142,12 @@ fn random_jobs(topic: &mut Topic, write: Write, judge: Judge, rounds: usize) {
 pub fn long_job(share: u64, total: u64) -> Job {
     let limits = Limits { deviation: Limit::AtMost(GREATEST_DEVIATION), spread: Limit::AtMost(GREATEST_SPREAD) };
     let group = |first: usize| Group { total, limits, members: (first..first + 64).collect() };
-    Job { lows: vec![share; 256], highs: vec![share; 256], groups: (99..99 + 64).map(group).collect() }
+    Job {
+        lows: vec![share; 256],
+        highs: vec![share; 256],
+        marks: vec![0; 256],
+        groups: (99..99 + 64).map(group).collect(),
+    }
 }
 
 /// 256 unit lines of 23 bytes, 64 group lines of 70 and 4,096 members of 4: no text is longer.
@@ -154,7 +159,7 @@ fn longest(topic: &mut Topic, write: Write) {
     for text in [&short, &long] {
         check_room(topic, write, text, &table, &long);
     }
-    table.extend(marked(2));
+    table.extend(filler_table(2));
     check(topic, write, &short, &table, 65_536, Ok(long.clone()));
     check_room(topic, write, &long, &with_spare(&[(0, 0); 256]), &short);
 }
