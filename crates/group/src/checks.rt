@@ -53,7 +53,7 @@ fn is_ordered(low: u64, high: u64, mark: u64) -> bool
 }
 
 // The place of the first unit with a number beyond its range; 0 where there is none.
-pub fn first_beyond(lows: &[u64], highs: &[u64], marks: &[u64]) -> u64
+fn first_beyond(lows: &[u64], highs: &[u64], marks: &[u64]) -> u64
     requires { ⌜ (length (now highs) ≡ length (now lows)) × (length (now marks) ≡ length (now lows)) ⌝ }
     ensures { λ r. ⌜ r ≡ firstBeyond (now (lows .entry)) (now (highs .entry)) (now (marks .entry)) ⌝ }
 {
@@ -68,7 +68,7 @@ pub fn first_beyond(lows: &[u64], highs: &[u64], marks: &[u64]) -> u64
 }
 
 // The place of the first unit with low above high, or shut and not 0 to 0; 0 where there is none.
-pub fn first_crossed(lows: &[u64], highs: &[u64], marks: &[u64]) -> u64
+fn first_crossed(lows: &[u64], highs: &[u64], marks: &[u64]) -> u64
     requires { ⌜ (length (now highs) ≡ length (now lows)) × (length (now marks) ≡ length (now lows)) ⌝ }
     ensures { λ r. ⌜ r ≡ firstCrossed (now (lows .entry)) (now (highs .entry)) (now (marks .entry)) ⌝ }
 {

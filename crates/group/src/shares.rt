@@ -42,7 +42,7 @@ pub fn sum_of(xs: &[u64]) -> u64
 }
 
 // T(v), the sum of the shares at a level.
-pub fn total_at(lows: &[u64], highs: &[u64], v: u64) -> u64
+fn total_at(lows: &[u64], highs: &[u64], v: u64) -> u64
     requires { ⌜ SoundRanges (now lows) (now highs) ⌝ }
     ensures { λ r. ⌜ r ≡ totalAt (now (lows .entry)) (now (highs .entry)) v ⌝ }
 {

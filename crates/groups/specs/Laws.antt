@@ -3,4 +3,3 @@ pub mod Storing
 pub mod Reading
 pub mod Walk
 pub mod Marks
-pub mod Members

@@ -22,8 +22,7 @@ pub record SoundMembers (count : ℕ) (group : Group) : Type 0 where
   pub below : (k : ℕ) → k < size group → unitOf group k < count
   pub different : (j k : ℕ) → j < size group → k < size group → unitOf group j ≡ unitOf group k → j ≡ k
 
--- 01: "A group names n different units", at least one, each one of the job's
+-- 01: at least one of them
 pub record SoundGroup (count : ℕ) (group : Group) : Type 0 where
   pub some : 0 < size group
-  pub below : (k : ℕ) → k < size group → unitOf group k < count
-  pub different : (j k : ℕ) → j < size group → k < size group → unitOf group j ≡ unitOf group k → j ≡ k
+  pub named : SoundMembers count group

@@ -135,7 +135,7 @@ rangeAs f s =
 unfoldable pub unitAs : (ℕ → ℕ) → List ℕ → Parsed UnitLine
 unitAs f s = orElse (mapped (λ u. shut) (word printShut s)) (rangeAs f s)
 
--- as many members as stand there, at most n
+-- as many members as there are, at most n
 unfoldable pub membersAs : (ℕ → ℕ) → ℕ → List ℕ → Parsed (List ℕ)
 membersAs f zero s = parsed [] s
 membersAs f (suc n) s = orElse (andThen (numberAs f space s) (λ m s. mapped (λ ms. m ∷ ms) (membersAs f n s))) (parsed [] s)

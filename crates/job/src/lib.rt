@@ -34,7 +34,7 @@ fn refused(number: u64) -> Reading
 }
 
 // Reads a whole text: its ranges to the front of lows and highs, its groups to the front of the flat list, its marks behind the room for groups.
-pub fn scan(text: &[u8], lows: &mut [u64], highs: &mut [u64], flat: &mut [u64]) -> Reading
+fn scan(text: &[u8], lows: &mut [u64], highs: &mut [u64], flat: &mut [u64]) -> Reading
     requires { ⌜ (mostUnits ≤ length (now lows)) × (mostUnits ≤ length (now highs)) × (mostFlat ≤ length (now flat)) ⌝ }
     ensures { λ r. ⌜ Scanned (now (text .entry)) (now (lows .entry)) (now (highs .entry)) (now (flat .entry)) (now (lows .exit)) (now (highs .exit)) (now (flat .exit)) r ⌝ }
 {

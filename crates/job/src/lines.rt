@@ -100,7 +100,7 @@ pub fn unit_line(text: &[u8], spot: Spot) -> UnitRead
 }
 
 // Reads a word, and a limit after it.
-pub fn limit_after(text: &[u8], spot: Spot, bytes: &[u8]) -> LimitRead
+fn limit_after(text: &[u8], spot: Spot, bytes: &[u8]) -> LimitRead
     ensures { λ r. ⌜ limitSeen (now (text .entry)) r ≡ limitAs held (now (bytes .entry)) (drop (spot .at) (now (text .entry))) ⌝ }
 {
     let Step::To(spot) = spot.word(text, bytes) else {
@@ -116,7 +116,7 @@ pub fn limit_after(text: &[u8], spot: Spot, bytes: &[u8]) -> LimitRead
     LimitRead::Is(Limit::AtMost(most), spot)
 }
 
-pub fn head_line(text: &[u8], spot: Spot) -> HeadRead
+fn head_line(text: &[u8], spot: Spot) -> HeadRead
     ensures { λ r. ⌜ headSeen (now (text .entry)) r ≡ headAs held (drop (spot .at) (now (text .entry))) ⌝ }
 {
     let Number::Value(total, spot) = spot.number_after(text, b"(group ") else {
@@ -170,8 +170,8 @@ fn put_member(flat: &mut [u64], at: usize, number: u64)
     flat[at] = number - 1;
 }
 
-// Reads as many members as stand there, and stores them from a place on.
-pub fn read_members(text: &[u8], spot: Spot, flat: &mut [u64], from: usize, units: usize) -> Members
+// Reads as many members as there are, and stores them from a place on.
+fn read_members(text: &[u8], spot: Spot, flat: &mut [u64], from: usize, units: usize) -> Members
     requires { ⌜ (length (now text) ≤ mostBytes) × (from ≤ mostBytes) ⌝ }
     ensures { λ r. ⌜ membersSeen (now (text .entry)) (now (flat .exit)) r ≡ mapped (tallied units from (now (flat .entry))) (membersAs held (length (drop (spot .at) (now (text .entry)))) (drop (spot .at) (now (text .entry)))) ⌝ }
 {

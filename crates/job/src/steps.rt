@@ -121,7 +121,7 @@ fn are_distinct(members: &[u64]) -> bool
     fresh_by(members, &mut marks)
 }
 
-// The refusal of a group line whose members stand in the flat list from a place on, 0 where there is none.
+// The refusal of a group line whose members are in the flat list from a place on, 0 where there is none.
 fn group_verdict(progress: Progress, head: Head, members: Members, flat: &[u64], from: usize) -> u64
     requires { ⌜ Bounded progress × Placed progress head members (now flat) from ⌝ }
     ensures { λ r. ⌜ r ≡ groupNumber progress head members (now (flat .entry)) from ⌝ }

@@ -50,7 +50,7 @@ pub fn put_item(buffer: &mut [u8], at: usize, v: u64) -> usize
 }
 
 // Writes numbers, each after a space, and hands back the index after them.
-pub fn put_items(buffer: &mut [u8], at: usize, vs: &[u64]) -> usize
+fn put_items(buffer: &mut [u8], at: usize, vs: &[u64]) -> usize
     requires { ⌜ Room (now buffer) at (items (now vs)) ⌝ }
     ensures { λ r. ⌜ Wrote (items (now (vs .entry))) (now (buffer .entry)) at (now (buffer .exit)) r ⌝ }
 {

@@ -45,7 +45,7 @@ pub fn put_unit_lines(buffer: &mut [u8], at: usize, lows: &[u64], highs: &[u64])
 }
 
 // Writes a group's line, and hands back the index after it.
-pub fn put_group_line(
+fn put_group_line(
     buffer: &mut [u8],
     at: usize,
     number: u64,

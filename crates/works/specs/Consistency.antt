@@ -1,4 +1,4 @@
--- Sound jobs, and tables at rest. Assumes nothing.
+-- Sound jobs, and tables at rest, for the groups that `settle` takes: those of running members. Of jobs with shut units Resting speaks. Assumes nothing.
 use Prim.Native.Nat.{ℕ, _≤_, _<_}
 use mathlib.Core.List.{List, List·Memᴰ}
 use mathlib.Core.Path.{_≡_}

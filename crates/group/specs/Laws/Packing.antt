@@ -152,7 +152,7 @@ module _ {marks numbers ys : List ℕ} {left i : ℕ} (p : i < length marks) (he
   pub still : (more : ℕ) → more ≡ pick (runs (getD marks i 0)) 1 0 → (more ≤ left) × (left - more ≤ i)
   still more is = omega (arith, held .counts, ahead-step marks i p more is, ahead-few marks i, ahead-less marks i)
 
-  -- a number written at member i stands in front of those that are back
+  -- a number written at member i is in front of those that are back
   written : (value : ℕ) → drop i (set numbers i value) ≡ value ∷ restored (drop (i + 1) marks) (drop left ys)
   written value =
       drop-cons (set numbers i value) i 0 (rw length-set (omega (arith, held .size)))

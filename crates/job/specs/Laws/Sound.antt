@@ -71,8 +71,10 @@ built-on job (group g) b e =
             spread-fits = k .spread-fits;
             sound = record {
               some = omega arith;
-              below = λ i h. below-at _ _ i (members-below _ _ (g .first ∷ g .others) (omega arith) (m .all-named)) h;
-              different = distinct-at _ (distinct-members _ (g .first ∷ g .others) (m .all-named) ∙ m .all-distinct);
+              named = record {
+                below = λ i h. below-at _ _ i (members-below _ _ (g .first ∷ g .others) (omega arith) (m .all-named)) h;
+                different = distinct-at _ (distinct-members _ (g .first ∷ g .others) (m .all-named) ∙ m .all-distinct);
+              };
             };
           });
     }

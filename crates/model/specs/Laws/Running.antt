@@ -7,13 +7,14 @@ use native.Mathlib.Nat.{suc-inj}
 use native.Mathlib.Omega.{arith}
 use lib.Dec.{leb}
 use borrow.Author.Tests.{le-ltb}
-use lib.ListN.{length}
+use lib.ListN.{length, getD}
 use Rattle.model.specs.Shares.{greatestShare, Ranges, Within, sum, sumOf}
 use Rattle.model.specs.Levels.{clamp, clamped, totalAt, levelBelow, level, growth, topped, remainder, levelled}
 use Rattle.model.specs.Plans.{hasShares}
 use Rattle.model.specs.Laws.Lists.{sum-sumOf}
 use Rattle.model.specs.Laws.Tests.{right-fails}
-use Rattle.model.specs.Running.{runs, running, Marked}
+use Rattle.model.specs.Figures.{figuresOf}
+use Rattle.model.specs.Running.{runs, running, Marked, markedFigures}
 
 -- a running member's number is kept
 pub running-run : (m : ℕ) → runs m ≡ true → (ms : List ℕ) (x : ℕ) (xs : List ℕ) → running (m ∷ ms) (x ∷ xs) ≡ x ∷ running ms xs
@@ -30,6 +31,19 @@ pub running-nil : (ms : List ℕ) → running ms [] ≡ []
 unfolding running
 running-nil [] = refl
 running-nil (m ∷ ms) = refl
+
+-- where nobody is shut, every number is kept
+pub running-all : (ms xs : List ℕ) → length xs ≡ length ms → ((i : ℕ) → getD ms i 0 ≡ 0) → running ms xs ≡ xs
+running-all ms [] count all = running-nil ms
+running-all [] (x ∷ xs) count all = absurd (omega arith)
+running-all (m ∷ ms) (x ∷ xs) count all =
+    running-run m (ap runs (all 0)) ms x xs
+    ∙ ap (λ (l : List ℕ). x ∷ l) (running-all ms xs (suc-inj count) (λ i. all (suc i)))
+
+-- and the figures are 01's, of all members
+pub figures-all : (ms : List ℕ) (total : ℕ) (xs : List ℕ) → length xs ≡ length ms → ((i : ℕ) → getD ms i 0 ≡ 0)
+    → markedFigures ms total xs ≡ figuresOf (length xs) total xs
+figures-all ms total xs count all = ap (λ (l : List ℕ). figuresOf (length l) total l) (running-all ms xs count all)
 
 -- one mark for each range
 pub marked-length : {ms ls hs : List ℕ} → Marked ms ls hs → (length ls ≡ length ms) × (length hs ≡ length ms)

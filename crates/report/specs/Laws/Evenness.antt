@@ -9,7 +9,6 @@ use Rattle.model.specs.Laws.Shut.{levelled-marked, marked-least-above}
 use Rattle.model.specs.Levels.{levelled}
 use Rattle.model.specs.Running.{Marked}
 use Rattle.model.specs.Shares.{Ranges}
-use Rattle.groups.specs.Laws.Members.{sound-members}
 use Rattle.groups.specs.Memberships.{SoundGroup, unitOf}
 use Rattle.works.specs.Laws.Resting.{members-marked, settled-opening, settled-rest}
 use Rattle.works.specs.Laws.Turns.{gathered}
@@ -25,12 +24,12 @@ module _ {marks : List ℕ} {groups : List Group} {table : Table} (sound : ShutO
       → Evenest marks table group (levelled (lowsOf table group) (highsOf table group) (group .total))
   levelled-evenest group member =
       let one : SoundGroup (units table) group = sound .each group member in
-      let ranges : Ranges (lowsOf table group) (highsOf table group) = gathered table group (sound .valid) (sound-members one) in
+      let ranges : Ranges (lowsOf table group) (highsOf table group) = gathered table group (sound .valid) (one .named) in
       let marked : Marked (marksOf marks group) (lowsOf table group) (highsOf table group) =
-      members-marked (sound .valid) (sound .shut) group (sound-members one) in
+      members-marked (sound .valid) (sound .shut) group (one .named) in
       let unit : ℕ = unitOf group 0 in
       let low : ℕ = lowOf table unit in
-      let below : low ≤ highOf table unit = ranges-at (sound .valid) unit (one .below 0 (one .some)) .0 in
+      let below : low ≤ highOf table unit = ranges-at (sound .valid) unit (one .named .below 0 (one .some)) .0 in
       let taken = rest .taken group member 0 (one .some) low (le-refl low) below in
       record {
         plan = levelled-marked marked ranges (group .total) (group .limits) (taken .1);

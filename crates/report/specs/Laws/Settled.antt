@@ -11,7 +11,6 @@ use Rattle.group.specs.declared.Check.{Check}
 use Rattle.group.specs.declared.Check.the-variants.{Passed, Failed}
 use Rattle.groups.specs.Memberships.{memberships, SoundMembers}
 use Rattle.groups.specs.Inner.Flat.{groupsIn, marksIn}
-use Rattle.groups.specs.Laws.Members.{sound-members}
 use Rattle.groups.specs.Laws.Reading.{groups-counted}
 use Rattle.job.specs.Job.{mostGroups, mostMemberships}
 use Rattle.model.specs.Groups.{Group}
@@ -68,7 +67,7 @@ reportable {marks} {groups} {table} {final} {passes} sound few-units few-groups 
       few-passes = omega (arith, bound, widths-sums (sound .valid), laws.highs-small (laws.sound (sound .valid) few-units));
       each-marked = sym (marked-length (left .shut) .0);
       levelable = λ group member.
-          let one-sound : SoundMembers (units final) group = sound-members (left .each group member) in
+          let one-sound : SoundMembers (units final) group = left .each group member .named in
           levelable one-sound (members-marked (left .valid) (left .shut) group one-sound)
           (laws.sound (gathered final group (left .valid) one-sound)
           (omega (arith, size-few one-sound, gather-length (final .lows) (group .members))))

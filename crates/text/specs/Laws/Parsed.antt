@@ -52,7 +52,7 @@ unfolding orElse
 either-parsed (parsed a s) q h = inl h
 either-parsed failed q h = inr h
 
--- a word that reads stands at the front
+-- a word that reads is at the front
 pub word-parsed : (w s : List ℕ) {u : Unit {0}} {r : List ℕ} → word w s ≡ parsed u r → s ≡ w ++ r
 unfolding word
 word-parsed [] s h = cc

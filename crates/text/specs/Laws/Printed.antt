@@ -90,7 +90,7 @@ printed-goes-on (suc n) v s h p =
           ∙ ap (λ (n : ℕ). digits n s) e)
     ]
 
--- no digit stands first
+-- no digit is first
 unfoldable pub NoDigitNext : List ℕ → Type 0
 NoDigitNext [] = Unit
 NoDigitNext (b ∷ s) = isDigit (kindOf b) ≡ false
@@ -136,7 +136,7 @@ unfolding number
 printed-number [] w t h = absurd (let z : _≡_ {A = ℕ} 0 1 = cc in omega arith)
 printed-number (b ∷ s) w t h = first-digit b s w t (isDigit (kindOf b)) refl (eqb b 48) refl h
 
--- where a number stands, no word with another first byte than a digit does
+-- where a number is, there is no word with another first byte than a digit
 pub number-not-word : (w : ℕ) (ws : List ℕ) (s : List ℕ) (v : ℕ) (t : List ℕ) → isDigit (kindOf w) ≡ false → number s ≡ parsed v t → word (w ∷ ws) s ≡ failed
 unfolding number word
 number-not-word w ws [] v t n h = refl

@@ -6,7 +6,6 @@ use mathlib.Core.Path.{_≡_, sym, _∙_}
 use native.Mathlib.Omega.{arith}
 use lib.ListN.{length}
 use Rattle.groups.specs.Inner.Flat.{flatten, groupsIn, marksIn, mostFlat}
-use Rattle.groups.specs.Laws.Members.{sound-members}
 use Rattle.groups.specs.Laws.Reading.{flatten-groups, flatten-holds}
 use Rattle.job.specs.Job.{Job, accepted, readJob}
 use Rattle.job.specs.Inner.Reading.{GroupsScanned}
@@ -54,7 +53,7 @@ module _ (text : List ℕ) (found : Job) (reads : readJob text ≡ accepted foun
           holds = rw (starts, ← lists) (flatten-holds (found .groups) rest);
           marked = omega (arith, built .few-units);
           few = omega (arith, built .few-units);
-          each = rw (starts, ← counts, ← lists, flatten-groups (found .groups) rest) (λ group member. sound-members (each-sound (built .groups-sound) group member));
+          each = rw (starts, ← counts, ← lists, flatten-groups (found .groups) rest) (λ group member. each-sound (built .groups-sound) group member .named);
         }
 
     -- its settling is that of the text

@@ -32,7 +32,7 @@ pairs-settle = refl
 
 -- two different units are a sound group
 pair-sound : (units a b : ℕ) → a < units → b < units → a ≢ b → SoundGroup units (pair a b)
-pair-sound units a b p q apart = record { some = omega arith; below = below; different = different }
+pair-sound units a b p q apart = record { some = omega arith; named = record { below = below; different = different } }
   where
     below : (k : ℕ) → k < 2 → getD (a ∷ b ∷ []) k 0 < units
     below zero h = p

@@ -8,7 +8,6 @@ use mathlib.Core.Path.{_≡_, _∙_}
 use native.Mathlib.Nat.{le-refl}
 use native.Mathlib.Omega.{arith}
 use lib.ListN.{length, getD}
-use Rattle.groups.specs.Laws.Members.{sound-members}
 use Rattle.groups.specs.Memberships.{SoundMembers, size, unitOf}
 use Rattle.model.specs.Groups.{Group}
 use Rattle.model.specs.Laws.Lists.{within-length, ranges-at}
@@ -90,7 +89,7 @@ module _ {marks : List ℕ} {table : Table} (valid : Valid table) (shut : Marked
 module _ {marks : List ℕ} {groups : List Group} {table : Table} (sound : ShutOpening marks groups table) where
   -- the running groups are sound
   pub running-sound : SoundOpening (runningGroups marks groups) table
-  running-sound = running-opening marks (record { valid = sound .valid; each = λ group member. sound-members (sound .each group member) })
+  running-sound = running-opening marks (record { valid = sound .valid; each = λ group member. sound .each group member .named })
 
   -- each table of ranges inside opens such a settling
   pub shut-inside : {inner : Table} → Valid inner → Inside inner table → ShutOpening marks groups inner
@@ -107,7 +106,7 @@ module _ {marks : List ℕ} {groups : List Group} {table : Table} (sound : ShutO
     each = λ group member.
         let (whole, among, same) = Memᴰ·of-map (runningGroup marks) groups member in
         let is = sound .each whole among in
-        rw (← same) (taken-supported (sound .valid) (sound .shut) whole (sound-members is) (is .some) (rest .taken whole among));
+        rw (← same) (taken-supported (sound .valid) (sound .shut) whole (is .named) (is .some) (rest .taken whole among));
   }
 
   -- and the other way round
@@ -115,7 +114,7 @@ module _ {marks : List ℕ} {groups : List Group} {table : Table} (sound : ShutO
   consistent-rest consistent = record {
     valid = sound .valid;
     taken = λ group member.
-        supported-taken (sound .valid) (sound .shut) group (sound-members (sound .each group member))
+        supported-taken (sound .valid) (sound .shut) group (sound .each group member .named)
         (consistent .each (runningGroup marks group) (Memᴰ·map (runningGroup marks) member));
   }
 

@@ -10,7 +10,7 @@ use lib.ListN.{length, getD}
 use Rattle.groups.specs.Memberships.{SoundMembers}
 use Rattle.model.specs.Groups.{Group}
 use Rattle.model.specs.Laws.Marked.{Ranked, unranked, running-at}
-use Rattle.model.specs.Laws.Running.{running-run, running-skip}
+use Rattle.model.specs.Laws.Running.{running-run, running-skip, running-all}
 use Rattle.model.specs.Running.{runs, running, Marked}
 use Rattle.model.specs.Shares.{Ranges}
 use Rattle.works.specs.Consistency.{SoundOpening}
@@ -66,7 +66,26 @@ module _ (marks : List ℕ) (group : Group) where
       let (i, r, among) = unranked (marksOf marks group) (group .members) one-mark j h in
       (i, omega (arith, one-mark), sym (running-at r (group .members) one-mark .0) ∙ e)
 
--- so are the running groups of sound ones
+  -- where no unit is shut, it is the group itself
+  pub whole-group : ((unit : ℕ) → getD marks unit 0 ≡ 0) → runningGroup marks group ≡ group
+  unfolding gather
+  whole-group all =
+      ap (λ (members : List ℕ). record { total = group .total; limits = group .limits; members = members })
+      (running-all (marksOf marks group) (group .members) one-mark (gather-zero (group .members)))
+    where
+      gather-zero : (members : List ℕ) (k : ℕ) → getD (gather marks members) k 0 ≡ 0
+      gather-zero [] k = refl
+      gather-zero (m ∷ members) zero = all m
+      gather-zero (m ∷ members) (suc k) = gather-zero members k
+
+-- 02 changes no job without shut units: its groups are settled as they are
+pub whole-groups : (marks : List ℕ) (groups : List Group) → ((unit : ℕ) → getD marks unit 0 ≡ 0) → runningGroups marks groups ≡ groups
+whole-groups marks [] all = refl
+whole-groups marks (group ∷ groups) all =
+    ap (λ (g : Group). g ∷ runningGroups marks groups) (whole-group marks group all)
+    ∙ ap (λ (gs : List Group). group ∷ gs) (whole-groups marks groups all)
+
+-- the running groups of sound ones are sound
 pub running-opening : (marks : List ℕ) {groups : List Group} {table : Table} → SoundOpening groups table → SoundOpening (runningGroups marks groups) table
 running-opening marks {groups} sound = record {
   valid = sound .valid;

@@ -25,8 +25,7 @@ accepted-more {many = many} more (AcceptedGroups.also {g} first others) =
       spread-fits = first .spread-fits;
       sound = record {
         some = first .sound .some;
-        below = λ k h. omega (arith, first .sound .below k h);
-        different = first .sound .different;
+        named = record { below = λ k h. omega (arith, first .sound .named .below k h); different = first .sound .named .different };
       };
     } in
     AcceptedGroups.also again (accepted-more more others)
@@ -76,7 +75,7 @@ module _ (flat : List ℕ) (count : ℕ) (entry : List ℕ) (start : ℕ) where
 
     -- its members are units
     pub named-next : Named mostUnits (group .members)
-    named-next = record { below = first-accepted sound-next .sound .below }
+    named-next = record { below = first-accepted sound-next .sound .named .below }
 
     -- it is the first of the lines left
     pub rest-next : Rest all entry start (memberLine group ∷ map memberLine (drop (number + 1) groups)) buffer at

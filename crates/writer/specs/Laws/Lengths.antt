@@ -82,7 +82,7 @@ group-length g few good =
       print-length 8 (g .total) (omega (arith, good .total-fits)),
       limit-length 11 (g .limits .deviation) (omega arith) (omega arith) (good .deviation-fits),
       limit-length 17 (g .limits .spread) (omega arith) (omega arith) (good .spread-fits),
-      members-length (g .members) (λ k h. omega (arith, good .sound .below k h)),
+      members-length (g .members) (λ k h. omega (arith, good .sound .named .below k h)),
     )
 
 -- the group lines

@@ -99,11 +99,11 @@ module _ (job : Job) (g : Group) (found : LineOf g) (good : AcceptedGroup (lengt
   members-good : membersVerdict (length (job .lows)) (map suc (g .members)) ≡ 0
   unfolding membersVerdict
   members-good =
-      let named : allNamed (length (job .lows)) (map suc (g .members)) ≡ true = numbers-named _ (g .members) (good .sound .below) in
+      let named : allNamed (length (job .lows)) (map suc (g .members)) ≡ true = numbers-named _ (g .members) (good .sound .named .below) in
       let apart : distinct (map suc (g .members)) ≡ true =
       sym (distinct-members _ (map suc (g .members)) named)
       ∙ ap distinct (numbers-back (g .members))
-      ∙ different-distinct (g .members) (good .sound .different) in
+      ∙ different-distinct (g .members) (good .sound .named .different) in
       rw (named, apart)
 
   line-good : verdict job (group (found .line)) ≡ 0
