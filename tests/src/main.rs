@@ -52,6 +52,7 @@ fn independent_planner(checks: &mut Checks) {
     topics::judge::run(checks);
     topics::read::run(checks, who, independent::read);
     topics::lines::run(checks, who, independent::read);
+    topics::ailments::run(checks, who, independent::read);
     topics::calls::run_read(checks, who, independent::read);
     topics::settle::run(checks, who, independent::settle);
     topics::tables::run(checks, who, independent::settle);
@@ -83,6 +84,7 @@ fn proved_planner(checks: &mut Checks) {
     topics::read::run(checks, who, danivomel::read);
     topics::read::compare(checks, who, danivomel::read);
     topics::lines::run(checks, who, danivomel::read);
+    topics::ailments::run(checks, who, danivomel::read);
     topics::calls::run_read(checks, who, danivomel::read);
     topics::settle::run(checks, who, danivomel::settle);
     topics::settle::compare(checks, who, danivomel::settle);

@@ -1,6 +1,6 @@
 //! A second reader of job texts, to judge the independent one: it takes a line's words apart loosely, prints the line
-//! anew from them, and compares the bytes. And a second writer: it puts other unit lines into a text, and leaves shut
-//! units and group lines as they stand.
+//! anew from them, and compares the bytes; what ails a line it asks only where this failed. And a second writer: it puts
+//! other unit lines into a text, and leaves shut units and group lines as they stand.
 
 use danivomel::{Range, Refusal};
 
@@ -29,8 +29,18 @@ struct State {
     memberships: usize,
 }
 
-/// How many units and groups a text has, or its refusal, of 2 to 10.
+/// How many units and groups a text has, or its refusal, of 2 to 10 and 13 to 15.
 pub fn read(text: &[u8]) -> Result<(u64, u64), Refusal> {
+    read_naming(text, ailment)
+}
+
+/// The same by the form of the lines alone, which has 3 in the place of 13, 14 and 15.
+pub fn read_by_form(text: &[u8]) -> Result<(u64, u64), Refusal> {
+    read_naming(text, |_| 3)
+}
+
+/// Reads a text with a refusal for lines that are not in the form, each with its byte 10 where it has one.
+fn read_naming(text: &[u8], breach: fn(&[u8]) -> u64) -> Result<(u64, u64), Refusal> {
     if text.len() > 65_536 {
         return Err(Refusal { number: 2, place: 0 });
     }
@@ -39,16 +49,41 @@ pub fn read(text: &[u8]) -> Result<(u64, u64), Refusal> {
     let mut place = 0;
     while !rest.is_empty() {
         place += 1;
-        let end = rest.iter().position(|&byte| byte == 10).ok_or(Refusal { number: 3, place })?;
-        if let Some(number) = fault(&mut state, &rest[..end]) {
+        let end = rest.iter().position(|&byte| byte == 10);
+        let (line, after) = rest.split_at(end.map_or(rest.len(), |end| end + 1));
+        let faults = end.and_then(|end| line_faults(&mut state, &line[..end])).unwrap_or_else(|| vec![breach(line)]);
+        if let Some(number) = faults.into_iter().min() {
             return Err(Refusal { number, place });
         }
-        rest = &rest[end + 1..];
+        rest = after;
     }
     if state.units == 0 {
         return Err(Refusal { number: 10, place: 0 });
     }
     Ok((state.units, state.groups))
+}
+
+/// What ails a line that is not in the form: 13, 14 or 15, and 3 where none of them does.
+fn ailment(line: &[u8]) -> u64 {
+    let ailments = [(13, !line.ends_with(&[10])), (14, !pairs_up(line)), (15, !starts_with_word(line)), (3, true)];
+    present(&ailments)[0]
+}
+
+/// Whether as many brackets close as open, the first to close behind the first to open, the second behind the second,
+/// and so on.
+fn pairs_up(line: &[u8]) -> bool {
+    let places = |bracket: u8| -> Vec<usize> { (0..line.len()).filter(|&at| line[at] == bracket).collect() };
+    let (open, closed) = (places(40), places(41));
+    open.len() == closed.len() && open.iter().zip(&closed).all(|(open, closed)| open < closed)
+}
+
+/// Whether the first byte is a bracket, and what follows it, cut at every byte but letters, has one of the words first.
+fn starts_with_word(line: &[u8]) -> bool {
+    let words = ["unit", "group", "shut"].map(str::as_bytes);
+    line.split_first().map_or(false, |(&first, rest)| {
+        let mut pieces = rest.split(|byte| !(97..=122).contains(byte));
+        first == 40 && pieces.next().map_or(false, |piece| words.contains(&piece))
+    })
 }
 
 /// A text with the ranges of a table in its unit lines, or the refusal of writing it to so many bytes.
@@ -87,12 +122,7 @@ fn range_fault(lines: &[Vec<u8>], ranges: &[Range]) -> Result<(), Refusal> {
     crossed.map_or(Ok(()), Err)
 }
 
-/// The lowest refusal of a line, where it has one.
-fn fault(state: &mut State, line: &[u8]) -> Option<u64> {
-    line_faults(state, line).map_or(Some(3), |faults| faults.into_iter().min())
-}
-
-/// All refusals of a line but 3; none of a line that is not in the form.
+/// All refusals of a line that is in the form; nothing for one that is not.
 fn line_faults(state: &mut State, line: &[u8]) -> Option<Vec<u64>> {
     let line = std::str::from_utf8(line).ok()?;
     let words: Vec<&str> = line.split(['(', ')', ' ']).filter(|word| !word.is_empty()).collect();

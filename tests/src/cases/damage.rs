@@ -1,5 +1,5 @@
 //! Damages to a job text: bytes deleted, inserted or changed, items doubled, zeros led in, lines moved, cut or joined,
-//! numbers lengthened.
+//! numbers lengthened, brackets added, left out or exchanged, words misspelt, and the last line left without its byte 10.
 
 use crate::random::Random;
 
@@ -10,7 +10,7 @@ pub fn damage(random: &mut Random, text: &mut Vec<u8>) {
         return;
     }
     let at = random.index(text.len());
-    match random.between(0, 9) {
+    match random.between(0, 14) {
         0 => drop(text.remove(at)),
         1 => text.insert(at, telling_byte(random)),
         2 => text[at] = telling_byte(random),
@@ -20,6 +20,11 @@ pub fn damage(random: &mut Random, text: &mut Vec<u8>) {
         6 => before_number(random, text, b"98765432109876543210"),
         7 => swap_lines(random, text),
         8 => text.truncate(at),
+        9 => text.insert(at, random.one_of(b"()")),
+        10 => leave_bracket(random, text),
+        11 => exchange_brackets(random, text),
+        12 => misspell(random, text),
+        13 => text.truncate(text.len() - usize::from(text.ends_with(b"\n"))),
         _ => change_number(random, text),
     }
 }
@@ -27,6 +32,43 @@ pub fn damage(random: &mut Random, text: &mut Vec<u8>) {
 /// A byte of the form, or one next to its kinds.
 fn telling_byte(random: &mut Random) -> u8 {
     random.one_of(b"() \n0123456789anydevunitgroupspreadofshut/:`{'*!\x1f\t\r\x00\xff-AZ")
+}
+
+/// Where brackets stand.
+fn brackets(text: &[u8]) -> Vec<usize> {
+    (0..text.len()).filter(|&at| matches!(text[at], b'(' | b')')).collect()
+}
+
+/// Leaves a bracket out.
+fn leave_bracket(random: &mut Random, text: &mut Vec<u8>) {
+    let places = brackets(text);
+    if !places.is_empty() {
+        text.remove(random.one_of(&places));
+    }
+}
+
+/// Exchanges a bracket with the next one.
+fn exchange_brackets(random: &mut Random, text: &mut [u8]) {
+    let places = brackets(text);
+    if places.len() > 1 {
+        let first = random.index(places.len() - 1);
+        text.swap(places[first], places[first + 1]);
+    }
+}
+
+/// Takes out, doubles or changes a letter, or makes it a capital one.
+fn misspell(random: &mut Random, text: &mut Vec<u8>) {
+    let letters: Vec<usize> = (0..text.len()).filter(|&at| text[at].is_ascii_lowercase()).collect();
+    if letters.is_empty() {
+        return;
+    }
+    let at = random.one_of(&letters);
+    match random.between(0, 3) {
+        0 => drop(text.remove(at)),
+        1 => text.insert(at, text[at]),
+        2 => text[at] = random.one_of(b"unitgroupsh"),
+        _ => text[at].make_ascii_uppercase(),
+    }
 }
 
 /// Where numbers start.

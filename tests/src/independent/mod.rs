@@ -1,6 +1,7 @@
 //! The planner in plain Rust, written from the specification alone: what the proved library is compared with,
 //! in its answers and in its speed.
 
+pub mod ailment;
 pub mod level;
 pub mod narrow;
 pub mod reader;

@@ -1,5 +1,6 @@
-//! Reading a job text: the form of each line, and refusals 2 to 10 in the specification's order.
+//! Reading a job text: the form of each line, and the refusals of a text in the specification's order.
 
+use super::ailment::check_line;
 use super::{
     GREATEST_DEVIATION, GREATEST_SHARE, GREATEST_SPREAD, GREATEST_TOTAL, MOST_BYTES, MOST_GROUPS, MOST_MEMBERSHIPS,
     MOST_UNITS, RUNNING, SHUT,
@@ -50,9 +51,9 @@ pub fn read_job(text: &[u8]) -> Result<Job, Refusal> {
     Ok(job)
 }
 
-/// Adds one line, with its byte 10, to a job; or answers the lowest of 3 to 9 that applies to it.
+/// Adds one line, with its byte 10, to a job; or answers the first of 13, 14, 15 and 3 to 9 that applies to it.
 fn add_line(job: &mut Job, ended: &[u8]) -> Result<(), u64> {
-    let line = ended.strip_suffix(b"\n").ok_or(3u64)?;
+    let line = check_line(ended)?;
     if let Some((low, high, mark)) = unit_line(line) {
         check_unit(job, low, high)?;
         job.lows.push(low);

@@ -29,33 +29,37 @@ pub fn run_read(checks: &mut Checks, who: &str, read: Read) {
     });
 }
 
-/// Tries a planner's refusals of settling.
+/// Tries a planner's refusals of settling, and those of every kind of text.
 pub fn run_settle(checks: &mut Checks, who: &str, settle: Settle) {
     checks.topic("settle, refusals in every combination", who, |topic| {
-        each_combination(&sound(), &settle_faults(), |call, refusal| {
+        let mut refused = |call: &Call, refusal: Refusal| {
             let mut after = call.clone();
             let found = settle(call.text.as_bytes(), &mut after.table, &mut fillers(call.scratch));
             topic.same(call, "refusal", found, Err(in_pass_one(refusal)));
             topic.same(call, "table after the refusal", &after, call);
-        });
+        };
+        each_bad_text(&sound(), &mut refused);
+        each_combination(&sound(), &settle_faults(), &mut refused);
     });
 }
 
-/// Tries a planner's refusals of reporting.
+/// Tries a planner's refusals of reporting likewise.
 pub fn run_report(checks: &mut Checks, who: &str, report: Report) {
     checks.topic("report, refusals in every combination", who, |topic| {
         let mut faults = vec![fault(1, 0, |call: &mut Call| call.buffer = 65_535)];
         faults.extend(settle_faults());
         let filled = vec![0xa5; 65_536];
         let mut buffer = filled.clone();
-        each_combination(&sound(), &faults, |call, refusal| {
+        let mut refused = |call: &Call, refusal: Refusal| {
             let mut after = call.clone();
             let (text, scratch) = (call.text.as_bytes(), &mut fillers(call.scratch));
             let found = report(text, &mut after.table, scratch, &mut buffer[..call.buffer]);
             topic.same(call, "refusal", found, Err(in_pass_one(refusal)));
             topic.same(call, "table after the refusal", &after, call);
             topic.holds(call, "buffer after the refusal", buffer == filled);
-        });
+        };
+        each_bad_text(&sound(), &mut refused);
+        each_combination(&sound(), &faults, &mut refused);
     });
 }
 
@@ -67,14 +71,10 @@ pub fn run_write(checks: &mut Checks, who: &str, write: Write) {
         faults.extend(range_faults());
         faults.push(fault(1, 0, |call| call.buffer = call.buffer.saturating_sub(1)));
         faults.push(fault(1, 0, |call| call.buffer = 0));
-        for (number, place, text) in bad_texts() {
-            let refusal = Refusal { number, place };
-            let refused = |topic: &mut Topic, call: &Call| {
-                refused_writing(topic, write, &Call { text: text.clone(), ..call.clone() }, refusal);
-            };
-            refused(topic, &call);
-            each_combination(&call, &faults, |call, _| refused(topic, call));
-        }
+        each_bad_text(&call, |call, refusal| {
+            refused_writing(topic, write, call, refusal);
+            each_combination(call, &faults, |call, _| refused_writing(topic, write, call, refusal));
+        });
         let all: Vec<Fault<Call>> = text_faults().into_iter().chain(faults).collect();
         each_combination(&call, &all, |call, refusal| refused_writing(topic, write, call, refusal));
         let mut buffer = vec![0xa5; call.buffer];
@@ -94,7 +94,7 @@ fn refused_writing(topic: &mut Topic, write: Write, call: &Call, refusal: Refusa
 
 /// A refusal of settling; one for want of a plan comes in the first pass.
 fn in_pass_one(refusal: Refusal) -> Unsettled {
-    Unsettled { refusal, passes: u64::from(refusal.number > 10) }
+    Unsettled { refusal, passes: u64::from(matches!(refusal.number, 11 | 12)) }
 }
 
 /// What is written for the call without a fault.
@@ -123,7 +123,7 @@ fn text_faults() -> Vec<Fault<Call>> {
     vec![
         fault(2, 0, |call| call.text.push_str(&"(".repeat(65_536))),
         fault(7, 2, |call| call.text = call.text.replacen("9)\n(unit 0 9", "9)\n(unit 9 0", 1)),
-        fault(3, 6, |call| call.text.push_str("(shut)")),
+        fault(13, 6, |call| call.text.push_str("(shut)")),
     ]
 }
 
@@ -132,9 +132,11 @@ fn bad_texts() -> Vec<(u64, u64, String)> {
     let group = |of: &str| format!("(unit 0 9)\n(group 1 (dev any) (spread any) (of {of}))\n");
     vec![
         (2, 0, "(".repeat(65_537)),
-        (3, 2, "(unit 0 9)\n(unit 0 9)".to_string()),
-        (4, 1, "(unit 0 1000001)\n".to_string()),
+        (13, 2, "(unit 0 9)\n(unit 0 9)".to_string()),
+        (14, 2, "(unit 0 9)\n(unit 0 9))\n".to_string()),
+        (15, 2, "(unit 0 9)\n(units 0 9)\n".to_string()),
         (3, 2, "(unit 0 9)\n(shut 0 0)\n".to_string()),
+        (4, 1, "(unit 0 1000001)\n".to_string()),
         (5, 3, group("1") + "(unit 0 9)\n"),
         (5, 3, group("1") + "(shut)\n"),
         (6, 257, "(unit 0 9)\n".repeat(257)),
@@ -144,6 +146,13 @@ fn bad_texts() -> Vec<(u64, u64, String)> {
         (9, 2, group("1 1")),
         (10, 0, String::new()),
     ]
+}
+
+/// Tries a call with each of these texts in the place of its own.
+fn each_bad_text(call: &Call, mut attempt: impl FnMut(&Call, Refusal)) {
+    for (number, place, text) in bad_texts() {
+        attempt(&Call { text, ..call.clone() }, Refusal { number, place });
+    }
 }
 
 /// Ranges of the table that are not allowed.

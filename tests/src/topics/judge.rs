@@ -39,7 +39,10 @@ fn programs(topic: &mut Topic) {
         (&worked, "(refused 12 1)\n"),
         ("(unit 4 9)\n(shut)\n", "(settled 1)\n(unit 1 4 9)\n(unit 2 0 0)\n"),
         ("", "(refused 10 0)\n"),
-        ("(unit 0 10)", "(refused 3 1)\n"),
+        ("(unit 0 10)", "(refused 13 1)\n"),
+        ("(unit 0 10)\n(unit 0 10\n", "(refused 14 2)\n"),
+        ("(stand 0 10)\n", "(refused 15 1)\n"),
+        ("(unit 0 10 )\n", "(refused 3 1)\n"),
         ("(unit 0 1000001)\n", "(refused 4 1)\n"),
         (&long, "(refused 2 0)\n"),
     ];
@@ -65,7 +68,10 @@ fn handed_on(topic: &mut Topic) {
         ("(shut)\n(unit 0 0)\n", "(shut)\n(unit 0 0)\n"),
         (&refused, "(refused 12 1)\n"),
         ("", "(refused 10 0)\n"),
-        ("(unit 0 10)", "(refused 3 1)\n"),
+        ("(unit 0 10)", "(refused 13 1)\n"),
+        ("(unit 0 10)\n(unit 0 10\n", "(refused 14 2)\n"),
+        ("(stand 0 10)\n", "(refused 15 1)\n"),
+        ("(unit 0 10 )\n", "(refused 3 1)\n"),
     ];
     for (text, written) in cases {
         topic.same(&text, "written", String::from_utf8_lossy(&hand_on(text.as_bytes())), written.into());

@@ -18,105 +18,140 @@ fn has(set: u32, fault: u32) -> bool {
     set >> fault & 1 == 1
 }
 
-/// The lowest refusal of a set, whose faults are in rising order.
-fn lowest(set: u32, numbers: &[u64]) -> u64 {
+/// The refusal of a set's first fault.
+fn first_of(set: u32, numbers: &[u64]) -> u64 {
     numbers[set.trailing_zeros() as usize]
 }
 
-/// Unit lines with each set of the faults 3, 4, 5, 6 and 7.
+/// The refusals of the faults that a line of any form can have, in the order in which they are looked for: byte 10 left
+/// out, a closing bracket ahead of all, the last one left out, a longer word, a space ahead of it, one behind the items.
+const AILMENTS: [u64; 6] = [13, 14, 14, 15, 15, 3];
+
+/// The refusals of these faults, and of a form's own.
+fn with_ailments(own: &[u64]) -> Vec<u64> {
+    [&AILMENTS[..], own].concat()
+}
+
+/// The faults of a set that are a form's own.
+fn own_of(set: u32) -> u32 {
+    set >> AILMENTS.len()
+}
+
+/// A line of a word and items, with those faults of a set that a line of any form can have.
+fn ailing(set: u32, word: &str, items: &str) -> String {
+    let put = |fault: u32, bytes: &'static str| if has(set, fault) { bytes } else { "" };
+    let leave = |fault: u32, bytes: &'static str| if has(set, fault) { "" } else { bytes };
+    let (front, space, letter) = (put(1, ")"), put(4, " "), put(3, "s"));
+    let (gap, bracket, end) = (put(5, " "), leave(2, ")"), leave(0, "\n"));
+    format!("{front}({space}{word}{letter}{items}{gap}{bracket}{end}")
+}
+
+/// Unit lines with each set of the faults 13, 14, 15, 3, 4, 5, 6 and 7.
 fn unit_sets(topic: &mut Topic, read: Read) {
-    let numbers = [3, 3, 4, 4, 5, 6, 7];
+    let numbers = with_ailments(&[3, 4, 4, 5, 6, 7]);
     for set in 1u32..1 << numbers.len() {
-        let mut text = "(unit 0 9)\n".repeat(if has(set, 5) { 256 } else { 1 });
-        if has(set, 4) {
+        let own = own_of(set);
+        let mut text = "(unit 0 9)\n".repeat(if has(own, 4) { 256 } else { 1 });
+        if has(own, 3) {
             text.push_str("(group 5 (dev any) (spread any) (of 1))\n");
         }
         let line = text.lines().count() as u64 + 1;
-        let low = if has(set, 2) {
+        let low = if has(own, 1) {
             "1000002"
-        } else if has(set, 6) {
+        } else if has(own, 5) {
             "8"
         } else {
             "0"
         };
-        let high = if has(set, 3) { "1000001" } else { "7" };
-        let gap = if has(set, 0) { "  " } else { " " };
-        let end = if has(set, 1) { " )" } else { ")" };
-        text.push_str(&format!("(unit{gap}{low} {high}{end}\n"));
-        refused(topic, read, text.as_bytes(), lowest(set, &numbers), line);
+        let high = if has(own, 2) { "1000001" } else { "7" };
+        let gap = if has(own, 0) { "  " } else { " " };
+        text.push_str(&ailing(set, "unit", &format!("{gap}{low} {high}")));
+        refused(topic, read, text.as_bytes(), first_of(set, &numbers), line);
     }
 }
 
-/// Shut units' lines with each set of the faults 3, 5 and 6, after unit lines of both forms.
+/// Shut units' lines with each set of the faults 13, 14, 15, 3, 5 and 6, after unit lines of both forms.
 fn shut_sets(topic: &mut Topic, read: Read) {
-    let numbers = [3, 3, 3, 5, 6];
+    let numbers = with_ailments(&[3, 5, 6]);
     for set in 1u32..1 << numbers.len() {
+        let own = own_of(set);
         for before in ["(unit 0 9)\n", "(shut)\n"] {
-            let mut text = before.repeat(if has(set, 4) { 256 } else { 1 });
-            if has(set, 3) {
+            let mut text = before.repeat(if has(own, 2) { 256 } else { 1 });
+            if has(own, 1) {
                 text.push_str("(group 0 (dev any) (spread any) (of 1))\n");
             }
             let line = text.lines().count() as u64 + 1;
-            let word = if has(set, 0) { "Shut" } else { "shut" };
-            let range = if has(set, 1) { " 0 0" } else { "" };
-            let end = if has(set, 2) { " )" } else { ")" };
-            text.push_str(&format!("({word}{range}{end}\n"));
-            refused(topic, read, text.as_bytes(), lowest(set, &numbers), line);
+            text.push_str(&ailing(set, "shut", if has(own, 0) { " 0 0" } else { "" }));
+            refused(topic, read, text.as_bytes(), first_of(set, &numbers), line);
         }
     }
 }
 
-/// Group lines with each set of the faults 3, 4, 6, 8 and 9.
+/// Group lines with each set of the faults 13, 14, 15, 3, 4, 6, 8 and 9.
 fn group_sets(topic: &mut Topic, read: Read) {
-    let numbers = [3, 3, 4, 4, 4, 6, 6, 8, 8, 9];
+    let numbers = with_ailments(&[4, 4, 4, 6, 6, 8, 8, 9]);
     let all: Vec<String> = (1..=64).map(|number| number.to_string()).collect();
     for set in 1u32..1 << numbers.len() {
+        let own = own_of(set);
         let mut text = "(unit 0 9)\n".repeat(64);
-        let members = if has(set, 6) { all.join(" ") } else { "1".to_string() };
-        let groups = if has(set, 5) { 64 } else { 63 };
+        let members = if has(own, 4) { all.join(" ") } else { "1".to_string() };
+        let groups = if has(own, 3) { 64 } else { 63 };
         text.push_str(&format!("(group 5 (dev any) (spread any) (of {members}))\n").repeat(groups));
-        let total = if has(set, 2) { "256000001" } else { "5" };
-        let dev = if has(set, 3) { "100000000001" } else { "7" };
-        let spread = if has(set, 4) { "99999999999999999999" } else { "any" };
-        let mut of = if has(set, 6) { all.join(" ") } else { "3 4".to_string() };
-        for (fault, more) in [(6, " 63"), (7, " 0"), (8, " 65"), (9, " 4")] {
-            if has(set, fault) && (fault != 6 || !has(set, 9)) {
+        let total = if has(own, 0) { "256000001" } else { "5" };
+        let dev = if has(own, 1) { "100000000001" } else { "7" };
+        let spread = if has(own, 2) { "99999999999999999999" } else { "any" };
+        let mut of = if has(own, 4) { all.join(" ") } else { "3 4".to_string() };
+        for (fault, more) in [(4, " 63"), (5, " 0"), (6, " 65"), (7, " 4")] {
+            if has(own, fault) && (fault != 4 || !has(own, 7)) {
                 of.push_str(more);
             }
         }
-        let end = if has(set, 1) { ") " } else { ")" };
-        let word = if has(set, 0) { "groups" } else { "group" };
-        text.push_str(&format!("({word} {total} (dev {dev}) (spread {spread}) (of {of}){end}\n"));
-        refused(topic, read, text.as_bytes(), lowest(set, &numbers), 64 + groups as u64 + 1);
+        text.push_str(&ailing(set, "group", &format!(" {total} (dev {dev}) (spread {spread}) (of {of})")));
+        refused(topic, read, text.as_bytes(), first_of(set, &numbers), 64 + groups as u64 + 1);
     }
 }
 
-/// Two bad lines in either order: the first one's refusal comes, whatever its number; and 2 hides both.
-fn line_pairs(topic: &mut Topic, read: Read) {
-    let group = |inner: &str| format!("(group {inner})\n");
-    let bad = [
-        (3, "(unit 1  2)\n".to_string()),
-        (3, "\n".to_string()),
-        (4, "(unit 0 1000001)\n".to_string()),
+/// Bad lines after two units and a group that names both, each without its byte 10, and their refusals.
+fn bad_lines() -> Vec<(u64, String)> {
+    let group = |inner: &str| format!("(group {inner})");
+    vec![
+        (14, "(unit 0 1".to_string()),
+        (14, ")shut(".to_string()),
+        (15, String::new()),
+        (15, "(units 0 1)".to_string()),
+        (3, "(unit 1  2)".to_string()),
+        (3, "(shut 0 0)".to_string()),
+        (4, "(unit 0 1000001)".to_string()),
         (4, group("256000001 (dev any) (spread any) (of 1)")),
-        (5, "(unit 0 9)\n".to_string()),
-        (5, "(shut)\n".to_string()),
-        (3, "(shut 0 0)\n".to_string()),
+        (5, "(unit 0 9)".to_string()),
+        (5, "(shut)".to_string()),
         (8, group("5 (dev any) (spread any) (of 1 0)")),
         (9, group("5 (dev any) (spread any) (of 1 2 1)")),
-    ];
+    ]
+}
+
+/// Two bad lines in either order, the second with its byte 10 and without: the first one's refusal comes, whatever its
+/// number; and 2 hides both. A line without byte 10 is bad as the last one alone.
+fn line_pairs(topic: &mut Topic, read: Read) {
     let opening = "(unit 0 9)\n(unit 0 9)\n(group 5 (dev any) (spread any) (of 1 2))\n";
-    for (number, first) in &bad {
-        for (_, second) in &bad {
-            let text = format!("{opening}{first}{second}");
-            refused(topic, read, text.as_bytes(), *number, 4);
+    for (number, first) in bad_lines() {
+        for (_, second) in bad_lines() {
+            let unended = format!("{opening}{first}\n{second}");
+            refused(topic, read, unended.as_bytes(), number, 4);
+            let text = unended + "\n";
+            refused(topic, read, text.as_bytes(), number, 4);
             let long = text + &"(unit 0 9)\n".repeat(6_000);
             refused(topic, read, long.as_bytes(), 2, 0);
+            refused(topic, read, &long.as_bytes()[..long.len() - 1], 2, 0);
+        }
+        if !first.is_empty() {
+            refused(topic, read, format!("{opening}{first}").as_bytes(), 13, 4);
         }
     }
     refused(topic, read, b"(unit 9 0)\n(unit 0 1000001)\n", 7, 1);
     refused(topic, read, b"(unit 0 1000001)\n(unit 9 0)\n", 4, 1);
     refused(topic, read, b"(shut)\n(unit 9 0)\n(shut 0)\n", 7, 2);
+    refused(topic, read, b"(unit 9 0)\n(unit 9 0)", 7, 1);
 }
 
 /// Each byte of sound lines deleted, doubled, or replaced by a byte of each kind: all but a few are breaches of form.

@@ -101,7 +101,7 @@ fn documentation(topic: &mut Topic) {
 /// The package says a refusal in the words of the user guide's table, which has those that a job can cause.
 fn words(topic: &mut Topic) {
     let guide = std::fs::read_to_string("docs/USER-GUIDE.md").expect("the guide is read");
-    for number in 2..=12 {
+    for number in 2..=15 {
         let row = format!("| {number} | {} |", Refusal { number, place: 0 }.reason());
         topic.holds(&row, "in the user guide", guide.contains(&row));
     }

@@ -75,7 +75,7 @@ fn sound_jobs(topic: &mut Topic, read: Read) {
 }
 
 /// The text of a sound job with one to so many damages, now and then none.
-fn damaged(topic: &mut Topic, most: u64) -> Vec<u8> {
+pub fn damaged(topic: &mut Topic, most: u64) -> Vec<u8> {
     let size = topic.random.one_of(&[TINY, MIDDLE]);
     let mut text = print_job(&sound(&mut topic.random, size));
     for _ in 0..topic.random.between(0, most) {
@@ -130,9 +130,9 @@ fn edges(topic: &mut Topic, read: Read) {
     length_edges(topic, read);
     shut_edges(topic, read);
     refused(topic, read, b"", 10, 0);
-    refused(topic, read, b"\n", 3, 1);
-    refused(topic, read, b"(unit 0 9)", 3, 1);
-    refused(topic, read, b"(unit 0 9)\n(unit 0 9)", 3, 2);
+    refused(topic, read, b"\n", 15, 1);
+    refused(topic, read, b"(unit 0 9)", 13, 1);
+    refused(topic, read, b"(unit 0 9)\n(unit 0 9)", 13, 2);
     refused(topic, read, group.as_bytes(), 8, 1);
 }
 
@@ -159,10 +159,11 @@ fn shut_edges(topic: &mut Topic, read: Read) {
             _ => refused(topic, read, text.as_bytes(), number, 3),
         }
     }
-    for line in
-        ["(shut)", "shut\n", "(shut\n", "shut)\n", "( shut)\n", "(shut )\n", "(shut) \n", "(shut))\n", "(shuts)\n"]
-    {
-        refused(topic, read, format!("{unit}{line}").as_bytes(), 3, 2);
+    let (unpaired, unnamed) = (["(shut\n", "shut)\n", "(shut))\n"], ["shut\n", "( shut)\n", "(shuts)\n"]);
+    for (number, lines) in [(13, &["(shut)"][..]), (14, &unpaired), (15, &unnamed), (3, &["(shut )\n", "(shut) \n"])] {
+        for line in lines {
+            refused(topic, read, format!("{unit}{line}").as_bytes(), number, 2);
+        }
     }
 }
 
@@ -194,7 +195,7 @@ fn length_edges(topic: &mut Topic, read: Read) {
     refused(topic, read, &line(65_536), 4, 1);
     refused(topic, read, &line(65_537), 2, 0);
     refused(topic, read, &[b'x'; 65_537], 2, 0);
-    refused(topic, read, &[b'x'; 65_536], 3, 1);
+    refused(topic, read, &[b'x'; 65_536], 13, 1);
     let job = Job { lows: vec![0; 256], highs: vec![1_000_000; 256], marks: vec![0; 256], groups: vec![] };
     let text = print_job(&job);
     topic.holds(&job, "a job of units alone is short", text.len() < 65_536);
