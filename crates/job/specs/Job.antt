@@ -1,12 +1,13 @@
--- Reading a job text: a fold over its lines, with the refusals 2 to 10. Assumes nothing.
+-- Reading a job text: a fold over its lines, with the refusals 2 to 10 and 13 to 15. Assumes nothing.
 use Prim.Native.Nat.{ℕ, zero, suc, _+_, _-_}
 use mathlib.Core.Bool.{Bool, true, false, not, _&&_, _||_}
 use mathlib.Core.List.{List, [], _∷_, _++_, map}
 use lib.Dec.{leb, ltb, eqb}
 use lib.ListN.{length}
+use Rattle.ailment.specs.Ailments.{frontLine, ailmentOf}
 use Rattle.groups.specs.Memberships.{memberships}
 use Rattle.model.specs.Shares.{pick, greatestShare, greatestTotal, mostUnits}
-use Rattle.model.specs.Refusals.{refusal}
+use Rattle.model.specs.Refusals.{refusal, unless}
 use Rattle.model.specs.Figures.{greatestDeviation, greatestSpread, limitWithin}
 use Rattle.model.specs.Groups.{Group}
 use Rattle.model.specs.declared.Limits.{Limits}
@@ -51,10 +52,6 @@ contains x (y ∷ ys) = eqb x y || contains x ys
 unfoldable pub distinct : List ℕ → Bool
 distinct [] = true
 distinct (x ∷ xs) = not (contains x xs) && distinct xs
-
--- the number of a refusal unless the test holds, and what comes after it
-abbrev pub unless : Bool → ℕ → ℕ → ℕ
-unless good number rest = pick good rest number
 
 -- 01: the refusal of a unit line in the form, 0 where there is none
 unfoldable pub unitVerdict : ℕ → ℕ → UnitLine → ℕ
@@ -123,10 +120,10 @@ abbrev pub judged : ℕ → Job → List ℕ → ℕ → LineStep
 judged zero job s place = next job s
 judged (suc number) job s place = stop (refusal (suc number) place)
 
--- 01: 3 for a line not in the form
-unfoldable pub stepOn : Job → Parsed Line → LineStep
-stepOn job (parsed l s) = judged (verdict job l) (add job l) s (placeOf job)
-stepOn job failed = stop (refusal 3 (placeOf job))
+-- the line at the front of a text, as it was read; 01: 3 for one not in the form; 02: 13, 14 and 15 "just ahead of 3"
+unfoldable pub stepOn : Job → List ℕ → Parsed Line → LineStep
+stepOn job text (parsed l s) = judged (verdict job l) (add job l) s (placeOf job)
+stepOn job text failed = stop (refusal (ailmentOf (frontLine text)) (placeOf job))
 
 -- what reading a text gives
 pub data JobOrRefusal : Type 0 where
@@ -142,7 +139,7 @@ onward k (stop r) = refused r
 unfoldable pub readLines : ℕ → Job → List ℕ → JobOrRefusal
 readLines zero job s = accepted job
 readLines (suc n) job [] = accepted job
-readLines (suc n) job (b ∷ s) = onward (λ job s. readLines n job s) (stepOn job (line (b ∷ s)))
+readLines (suc n) job (b ∷ s) = onward (λ job s. readLines n job s) (stepOn job (b ∷ s) (line (b ∷ s)))
 
 -- the job of no line
 abbrev pub noLines : Job
@@ -153,7 +150,7 @@ unfoldable pub someUnit : JobOrRefusal → JobOrRefusal
 someUnit (accepted job) = pick (eqb (length (job .lows)) 0) (refused (refusal 10 0)) (accepted job)
 someUnit (refused r) = refused r
 
--- 01: 2 first, "then the first bad line with the lowest of 3 to 9, then 10"
+-- 01: 2 first, "then the first bad line with the lowest of 3 to 9, then 10"; 02: on it 13, 14, 15 ahead of 3
 unfoldable pub readJob : List ℕ → JobOrRefusal
 readJob text =
     pick (leb (length text) mostBytes) (someUnit (readLines (length text) noLines text)) (refused (refusal 2 0))

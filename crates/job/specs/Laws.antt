@@ -1,6 +1,9 @@
 -- The laws, a file for each topic.
 pub mod Accepting
+pub mod Ailing
+pub mod Before
 pub mod Distinct
+pub mod Formed
 pub mod HeldAlike
 pub mod Orders
 pub mod Placed

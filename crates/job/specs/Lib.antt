@@ -7,5 +7,7 @@ pub mod Accepting
 pub mod SameJob
 pub mod Orders
 pub mod Whole
+pub mod Before
+pub mod Ailing
 pub mod Inner
 pub mod Laws

@@ -12,6 +12,7 @@ ghost use Rattle.job.specs.Inner.Steps.{Bounded, UnitTaken, GroupTaken, 
 ghost use Rattle.job.specs.Inner.Taking.{placeAt};
 ghost use Rattle.model.specs.Shares.{mostUnits};
 ghost use Rattle.model.specs.Refusals.{refusal};
+use ailment::ailment;
 use crate::lines::GroupRead;
 use crate::lines::Head;
 use crate::lines::Members;
@@ -192,7 +193,7 @@ fn take_group(text: &[u8], spot: Spot, progress: Progress, flat: &mut [u64]) -> 
     let at = groups * HEAD + memberships;
     let from = at + HEAD;
     let GroupRead::Is(head, members) = group_line(text, spot, flat, from, units) else {
-        return refuse(progress, 3);
+        return refuse(progress, ailment(text, spot));
     };
     let number = group_verdict(progress, head, members, flat, from);
     if number != 0 {

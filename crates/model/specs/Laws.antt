@@ -1,4 +1,5 @@
 -- The laws of one group, a file for each topic.
+pub mod Refusals
 pub mod Tests
 pub mod Shares
 pub mod Lists

@@ -8,7 +8,8 @@ use Rattle.job.specs.declared.lines.Head.{Head}
 use Rattle.job.specs.declared.lines.Members.{Members}
 use Rattle.job.specs.declared.steps.Progress.{Progress}
 use Rattle.job.specs.Inner.Below.{AllBelow}
-use Rattle.job.specs.Job.{unless, firstRefusal, headVerdict, distinct}
+use Rattle.model.specs.Refusals.{unless}
+use Rattle.job.specs.Job.{firstRefusal, headVerdict, distinct}
 use Rattle.model.specs.Shares.{mostUnits}
 
 -- the refusal of its head, 0 where there is none

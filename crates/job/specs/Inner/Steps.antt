@@ -58,20 +58,20 @@ lists lows₀ highs₀ flat₀ lows highs flat =
 -- taking a unit line that the code keeps so, whatever the job so far
 abbrev pub UnitTaken : Progress → Unit → ℕ → List ℕ → List ℕ → List ℕ → List ℕ → List ℕ → List ℕ → TakenLine → Type 0
 UnitTaken p u at lows highs flat lows′ highs′ flat′ r =
-    (text : List ℕ) (job : Job) (lows₀ highs₀ flat₀ : List ℕ) (l : UnitLine) → keptUnit l ≡ u
+    (text from : List ℕ) (job : Job) (lows₀ highs₀ flat₀ : List ℕ) (l : UnitLine) → keptUnit l ≡ u
     → ReadSoFar job p (lists lows₀ highs₀ flat₀ lows highs flat)
-    → Answers text (lists lows₀ highs₀ flat₀ lows′ highs′ flat′) r (stepOn job (parsed (unit l) (drop at text)))
+    → Answers text (lists lows₀ highs₀ flat₀ lows′ highs′ flat′) r (stepOn job from (parsed (unit l) (drop at text)))
 
 -- taking a group line
 abbrev pub GroupTaken : List ℕ → Progress → ℕ → List ℕ → List ℕ → TakenLine → Type 0
 GroupTaken text p at flat flat′ r =
     (job : Job) (lows₀ highs₀ flat₀ lows highs : List ℕ)
     → ReadSoFar job p (lists lows₀ highs₀ flat₀ lows highs flat)
-    → Answers text (lists lows₀ highs₀ flat₀ lows highs flat′) r (stepOn job (mapped group (groupAs held (drop at text))))
+    → Answers text (lists lows₀ highs₀ flat₀ lows highs flat′) r (stepOn job (drop at text) (mapped group (groupAs held (drop at text))))
 
 -- taking a line
 abbrev pub LineTaken : List ℕ → Progress → ℕ → List ℕ → List ℕ → List ℕ → List ℕ → List ℕ → List ℕ → TakenLine → Type 0
 LineTaken text p at lows highs flat lows′ highs′ flat′ r =
     (job : Job) (lows₀ highs₀ flat₀ : List ℕ)
     → ReadSoFar job p (lists lows₀ highs₀ flat₀ lows highs flat)
-    → Answers text (lists lows₀ highs₀ flat₀ lows′ highs′ flat′) r (stepOn job (line (drop at text)))
+    → Answers text (lists lows₀ highs₀ flat₀ lows′ highs′ flat′) r (stepOn job (drop at text) (line (drop at text)))

@@ -36,7 +36,7 @@ read-takes zero job (b ∷ s) final short h = absurd (omega arith)
 read-takes (suc n) job (b ∷ s) final short h =
     by-line (line (b ∷ s)) refl h (λ job r below again. read-takes n job r final below again)
   where
-    by-line : (p : Parsed Line) → line (b ∷ s) ≡ p → onward (λ job s. readLines n job s) (stepOn job p) ≡ accepted final
+    by-line : (p : Parsed Line) → line (b ∷ s) ≡ p → onward (λ job s. readLines n job s) (stepOn job (b ∷ s) p) ≡ accepted final
         → ((job : Job) (r : List ℕ) → length r ≤ n → readLines n job r ≡ accepted final → Takes job (linesOf r) final)
         → Takes job (linesOf (b ∷ s)) final
     by-line (parsed l r) reads goes-on again =
@@ -53,7 +53,7 @@ takes-reads : (n : ℕ) {job final : Job} {lines : List (List ℕ)} → Takes jo
 unfolding joined stepOn
 takes-reads n (Takes.none same) short = rw same (read-end n _)
 takes-reads n {job} {final} (Takes.also {lines = lines} l is good rest) short =
-    let steps : stepOn job (line (printLine l ++ joined lines)) ≡ next (add job l) (joined lines) = rw (line-printed l (joined lines), good) in
+    let steps : stepOn job (printLine l ++ joined lines) (line (printLine l ++ joined lines)) ≡ next (add job l) (joined lines) = rw (line-printed l (joined lines), good) in
     let long : 0 < length (printLine l ++ joined lines) = omega (arith, length-append (printLine l) (joined lines), line-long l) in
     let (m, fits, shorter, reads) = read-next n job (printLine l ++ joined lines) (add job l) (joined lines) long (rw is at short) steps in
     rw is (reads ∙ takes-reads m rest fits)

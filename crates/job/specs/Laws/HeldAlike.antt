@@ -22,7 +22,8 @@ use Rattle.job.specs.Form.{UnitLine, range, shut, printShut, GroupLine, 
 use Rattle.job.specs.Form.{spreadOpening, membersOpening, groupEnding, anyWord}
 use Rattle.job.specs.Form.{numberAs, limitAs, rangeAs, unitAs, membersAs, headAs, grouped, groupAs, lineAs, line}
 use Rattle.groups.specs.Memberships.{memberships}
-use Rattle.job.specs.Job.{Job, unitVerdict, headVerdict, membersVerdict, verdict, named, allNamed, add, stepOn, judged, unless, distinct, firstRefusal}
+use Rattle.model.specs.Refusals.{unless}
+use Rattle.job.specs.Job.{Job, unitVerdict, headVerdict, membersVerdict, verdict, named, allNamed, add, stepOn, judged, distinct, firstRefusal}
 use Rattle.model.specs.Laws.Tests.{both-left, both-right}
 use Rattle.job.specs.Laws.Verdicts.{unit-good, head-good, members-good, first-zero}
 
@@ -241,12 +242,12 @@ judged-same : (v : ℕ) (j k : Job) (s : List ℕ) (place : ℕ) → (v ≡ 0 �
 judged-same zero j k s place h = rw (h refl)
 judged-same (suc v) j k s place h = refl
 
-step-on-held : (job : Job) (p : Parsed Line) → length (job .lows) < most → stepOn job (mapped (lineBy held) p) ≡ stepOn job p
+step-on-held : (job : Job) (s : List ℕ) (p : Parsed Line) → length (job .lows) < most → stepOn job s (mapped (lineBy held) p) ≡ stepOn job s p
 unfolding stepOn mapped
-step-on-held job failed h = refl
-step-on-held job (parsed l s) h =
-    rw (verdict-held job l h) (judged-same (verdict job l) (add job (lineBy held l)) (add job l) s _ (λ e. ap (add job) (line-kept job l h e)))
+step-on-held job s failed h = refl
+step-on-held job s (parsed l rest) h =
+    rw (verdict-held job l h) (judged-same (verdict job l) (add job (lineBy held l)) (add job l) rest _ (λ e. ap (add job) (line-kept job l h e)))
 
 -- a line held is taken or refused as the line itself
-pub step-held : (job : Job) (s : List ℕ) → length (job .lows) < most → stepOn job (lineAs held s) ≡ stepOn job (line s)
-step-held job s h = rw (line-by held s) (step-on-held job (line s) h)
+pub step-held : (job : Job) (s : List ℕ) → length (job .lows) < most → stepOn job s (lineAs held s) ≡ stepOn job s (line s)
+step-held job s h = rw (line-by held s) (step-on-held job s (line s) h)

@@ -10,7 +10,8 @@ use Rattle.groups.specs.Inner.Flat.{headLength, flatLength, mostFlat}
 use Rattle.job.specs.declared.lines.Head.{Head}
 use Rattle.job.specs.declared.lines.Members.{Members}
 use Rattle.job.specs.declared.steps.Progress.{Progress}
-use Rattle.job.specs.Job.{unless, firstRefusal, headVerdict, membersVerdict, allNamed, distinct, memberOf}
+use Rattle.model.specs.Refusals.{unless}
+use Rattle.job.specs.Job.{firstRefusal, headVerdict, membersVerdict, allNamed, distinct, memberOf}
 use Rattle.job.specs.Inner.Placed.{headNumber, groupNumber, Placed}
 use Rattle.job.specs.Laws.Distinct.{distinct-members, members-below}
 use Rattle.job.specs.Laws.Tally.{GroupFacts, numbersOf}

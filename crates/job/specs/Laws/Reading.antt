@@ -32,7 +32,7 @@ judged-next zero j k s r place h = cc
 judged-next (suc v) j k s r place h = absurd (let z : _≡_ {A = ℕ} 0 1 = cc in omega arith)
 
 -- a line that is taken has at least one byte
-step-shorter : (job : Job) (s : List ℕ) (p : Parsed Line) → line s ≡ p → (k : Job) (r : List ℕ) → stepOn job p ≡ next k r → length r < length s
+step-shorter : (job : Job) (s : List ℕ) (p : Parsed Line) → line s ≡ p → (k : Job) (r : List ℕ) → stepOn job s p ≡ next k r → length r < length s
 unfolding stepOn
 step-shorter job s failed e k r h = absurd (let z : _≡_ {A = ℕ} 0 1 = cc in omega arith)
 step-shorter job s (parsed l t) e k r h =
@@ -40,7 +40,7 @@ step-shorter job s (parsed l t) e k r h =
     omega (arith, ap length (printed-line s e), length-append (printLine l) t, line-long l, ap length n)
 
 -- the next line is taken
-pub read-next : (n : ℕ) (job : Job) (s : List ℕ) (k : Job) (r : List ℕ) → 0 < length s → length s ≤ n → stepOn job (line s) ≡ next k r
+pub read-next : (n : ℕ) (job : Job) (s : List ℕ) (k : Job) (r : List ℕ) → 0 < length s → length s ≤ n → stepOn job s (line s) ≡ next k r
     → (m : ℕ) × (length r ≤ m) × (length r < length s) × (readLines n job s ≡ readLines m k r)
 unfolding readLines onward
 read-next zero job s k r p l h = absurd (omega arith)
@@ -50,7 +50,7 @@ read-next (suc n) job (b ∷ s) k r p l h =
     (n, omega arith, d, rw h)
 
 -- the next line is refused
-pub read-stop : (n : ℕ) (job : Job) (s : List ℕ) (r : Refusal) → 0 < length s → length s ≤ n → stepOn job (line s) ≡ stop r
+pub read-stop : (n : ℕ) (job : Job) (s : List ℕ) (r : Refusal) → 0 < length s → length s ≤ n → stepOn job s (line s) ≡ stop r
     → readLines n job s ≡ refused r
 unfolding readLines onward
 read-stop zero job s r p l h = absurd (omega arith)

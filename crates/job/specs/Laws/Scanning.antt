@@ -126,7 +126,7 @@ module _ (text lows₀ highs₀ flat₀ lows highs flat : List ℕ) where
 -- a line more
 pub on-line : {text lows₀ highs₀ flat₀ lows highs flat lows′ highs′ flat′ : List ℕ} {at : ℕ} {p : Progress}
     (g : Going text lows₀ highs₀ flat₀ lows highs flat at p) (q : Progress) (spot : Spot) → at < length text
-    → Answers text (lists lows₀ highs₀ flat₀ lows′ highs′ flat′) (taken.Line q spot) (stepOn (g .job) (line (drop at text)))
+    → Answers text (lists lows₀ highs₀ flat₀ lows′ highs′ flat′) (taken.Line q spot) (stepOn (g .job) (drop at text) (line (drop at text)))
     → length lows′ ≡ length lows → length highs′ ≡ length highs → length flat′ ≡ length flat
     → (length (drop (spot .at) text) < length (drop at text)) × Going text lows₀ highs₀ flat₀ lows′ highs′ flat′ (spot .at) q
 on-line {text} {at = at} g q spot h a ll hl fl =
@@ -146,7 +146,7 @@ on-line {text} {at = at} g q spot h a ll hl fl =
 
 -- a line refused
 pub off-line : {text lows₀ highs₀ flat₀ lows highs flat : List ℕ} {at : ℕ} {p : Progress} (g : Going text lows₀ highs₀ flat₀ lows highs flat at p)
-    (r : Refusal) → at < length text → stepOn (g .job) (line (drop at text)) ≡ stop r → readLines (length text) noLines text ≡ refused r
+    (r : Refusal) → at < length text → stepOn (g .job) (drop at text) (line (drop at text)) ≡ stop r → readLines (length text) noLines text ≡ refused r
 off-line {text} {at = at} g r h a = sym (g .same) ∙ read-stop (g .lines) (g .job) (drop at text) r (left text at h) (g .enough) a
 
 module _ {text lows₀ highs₀ flat₀ lows highs flat : List ℕ} {at : ℕ} {p : Progress} (short : length text ≤ mostBytes)
@@ -163,7 +163,7 @@ module _ {text lows₀ highs₀ flat₀ lows highs flat : List ℕ} {at : ℕ} {
       ]
 
   -- a line is refused, and its refusal is the answer, whatever the lists hold
-  pub scanned-stop : (lows′ highs′ flat′ : List ℕ) (r : Refusal) → at < length text → stepOn (g .job) (line (drop at text)) ≡ stop r
+  pub scanned-stop : (lows′ highs′ flat′ : List ℕ) (r : Refusal) → at < length text → stepOn (g .job) (drop at text) (line (drop at text)) ≡ stop r
       → Scanned text lows₀ highs₀ flat₀ lows′ highs′ flat′ (Refused r)
   scanned-stop lows′ highs′ flat′ r h a = scanned-refused _ _ _ _ _ _ _ r (line-refused _ short r (off-line g r h a))
 

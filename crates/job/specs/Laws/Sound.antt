@@ -83,11 +83,11 @@ judged-zero : (v : ℕ) (j k : Job) (s r : List ℕ) (place : ℕ) → judged v 
 judged-zero zero j k s r place h = (refl, cc)
 judged-zero (suc v) j k s r place h = absurd (let z : _≡_ {A = ℕ} 0 1 = cc in omega arith)
 
-built-step : (job : Job) (p : Parsed Line) (k : Job) (r : List ℕ) → Built job → stepOn job p ≡ next k r → Built k
+built-step : (job : Job) (s : List ℕ) (p : Parsed Line) (k : Job) (r : List ℕ) → Built job → stepOn job s p ≡ next k r → Built k
 unfolding stepOn
-built-step job failed k r b h = absurd (let z : _≡_ {A = ℕ} 0 1 = cc in omega arith)
-built-step job (parsed l s) k r b h =
-    let z = judged-zero (verdict job l) (add job l) k s r (placeOf job) h in
+built-step job s failed k r b h = absurd (let z : _≡_ {A = ℕ} 0 1 = cc in omega arith)
+built-step job s (parsed l rest) k r b h =
+    let z = judged-zero (verdict job l) (add job l) k rest r (placeOf job) h in
     rw (← z .1) (built-on job l b (z .0))
 
 built-lines : (n : ℕ) (job : Job) (s : List ℕ) (k : Job) → Built job → readLines n job s ≡ accepted k → Built k
@@ -95,10 +95,10 @@ unfolding readLines onward
 built-lines zero job s k b h = let e : job ≡ k = cc in rw (← e) b
 built-lines (suc n) job [] k b h = let e : job ≡ k = cc in rw (← e) b
 built-lines (suc n) job (c ∷ s) k b h =
-    by-step (stepOn job (line (c ∷ s))) (λ j r e f. built-lines n j r k (built-step job (line (c ∷ s)) j r b e) f) refl h
+    by-step (stepOn job (c ∷ s) (line (c ∷ s))) (λ j r e f. built-lines n j r k (built-step job (c ∷ s) (line (c ∷ s)) j r b e) f) refl h
   where
-    by-step : (t : LineStep) → ((j : Job) (r : List ℕ) → stepOn job (line (c ∷ s)) ≡ next j r → readLines n j r ≡ accepted k → Built k)
-        → stepOn job (line (c ∷ s)) ≡ t → onward (λ j r. readLines n j r) t ≡ accepted k → Built k
+    by-step : (t : LineStep) → ((j : Job) (r : List ℕ) → stepOn job (c ∷ s) (line (c ∷ s)) ≡ next j r → readLines n j r ≡ accepted k → Built k)
+        → stepOn job (c ∷ s) (line (c ∷ s)) ≡ t → onward (λ j r. readLines n j r) t ≡ accepted k → Built k
     by-step (next j r) again e f = again j r e f
     by-step (stop r) again e f = absurd (let z : _≡_ {A = ℕ} 0 1 = cc in omega arith)
 

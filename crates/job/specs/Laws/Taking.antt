@@ -23,6 +23,7 @@ use Rattle.job.specs.declared.lines.Unit.{Unit}
 use Rattle.job.specs.declared.steps.Progress.{Progress}
 use Rattle.job.specs.Inner.Taking.{placeAt}
 use Rattle.model.specs.Shares.{mostUnits}
+use Rattle.ailment.specs.Ailments.{frontLine, ailmentOf}
 use Rattle.model.specs.Refusals.{refusal}
 
 judged-stop : (v : ℕ) (job : Job) (s : List ℕ) (place : ℕ) → (v ≡ 0 → ⊥) → judged v job s place ≡ stop (refusal v place)
@@ -40,24 +41,24 @@ module _ (job : Job) (p : Progress) (l : Lists) (holds : ReadSoFar job p l) wher
   place-held = rw (holds .units, holds .groups)
 
   -- a line that is not in the form
-  pub not-in-form : stepOn job failed ≡ stop (refusal 3 (placeAt p))
+  pub not-in-form : (s : List ℕ) → stepOn job s failed ≡ stop (refusal (ailmentOf (frontLine s)) (placeAt p))
   unfolding stepOn
-  not-in-form = rw place-held
+  not-in-form s = rw place-held
 
   unit-verdict : (u : UnitLine) → verdict job (unit u) ≡ unitVerdict (p .units) (p .groups) u
   unfolding verdict
   unit-verdict u = rw (holds .units, holds .groups)
 
   -- a unit line with a refusal
-  pub unit-refused : (u : UnitLine) (s : List ℕ) (v : ℕ) → v ≡ unitVerdict (p .units) (p .groups) u → (v ≡ 0 → ⊥)
-      → stepOn job (parsed (unit u) s) ≡ stop (refusal v (placeAt p))
+  pub unit-refused : (u : UnitLine) (from s : List ℕ) (v : ℕ) → v ≡ unitVerdict (p .units) (p .groups) u → (v ≡ 0 → ⊥)
+      → stepOn job from (parsed (unit u) s) ≡ stop (refusal v (placeAt p))
   unfolding stepOn
-  unit-refused u s v e n = rw (unit-verdict u, ← e, judged-stop v (add job (unit u)) s (placeOf job) n, place-held)
+  unit-refused u from s v e n = rw (unit-verdict u, ← e, judged-stop v (add job (unit u)) s (placeOf job) n, place-held)
 
   -- a unit line without one
-  pub unit-next : (u : UnitLine) (s : List ℕ) → unitVerdict (p .units) (p .groups) u ≡ 0 → stepOn job (parsed (unit u) s) ≡ next (add job (unit u)) s
+  pub unit-next : (u : UnitLine) (from s : List ℕ) → unitVerdict (p .units) (p .groups) u ≡ 0 → stepOn job from (parsed (unit u) s) ≡ next (add job (unit u)) s
   unfolding stepOn
-  unit-next u s e = rw (unit-verdict u, e)
+  unit-next u from s e = rw (unit-verdict u, e)
 
   room : (xs d ys : List ℕ) → length xs ≡ p .units → ys ≡ xs ++ drop (p .units) d → p .units < length ys → p .units < length d
   room xs d ys e f h =
@@ -117,14 +118,14 @@ module _ (job : Job) (p : Progress) (l : Lists) (holds : ReadSoFar job p l) (g :
   group-verdict = rw (holds .units, holds .groups, holds .taken)
 
   -- a group line with a refusal
-  pub group-refused : (s : List ℕ) (v : ℕ) → v ≡ groupVerdict → (v ≡ 0 → ⊥) → stepOn job (parsed (group g) s) ≡ stop (refusal v (placeAt p))
+  pub group-refused : (from s : List ℕ) (v : ℕ) → v ≡ groupVerdict → (v ≡ 0 → ⊥) → stepOn job from (parsed (group g) s) ≡ stop (refusal v (placeAt p))
   unfolding stepOn
-  group-refused s v e n = rw (group-verdict, ← e, judged-stop v (add job (group g)) s (placeOf job) n, place-held job p l holds)
+  group-refused from s v e n = rw (group-verdict, ← e, judged-stop v (add job (group g)) s (placeOf job) n, place-held job p l holds)
 
   -- a group line without one
-  pub group-next : (s : List ℕ) → groupVerdict ≡ 0 → stepOn job (parsed (group g) s) ≡ next (add job (group g)) s
+  pub group-next : (from s : List ℕ) → groupVerdict ≡ 0 → stepOn job from (parsed (group g) s) ≡ next (add job (group g)) s
   unfolding stepOn
-  group-next s e = rw (group-verdict, e)
+  group-next from s e = rw (group-verdict, e)
 
   -- where the line's numbers begin in the flat list
   abbrev start : ℕ
@@ -213,16 +214,16 @@ heads-alike d at e f g = rw (e, f, g)
 
 -- a line that is no unit line is taken as a group line
 pub line-is-group : (job : Job) (p : Progress) (l : Lists) → ReadSoFar job p l → (s : List ℕ) → unitAs held s ≡ failed
-    → stepOn job (mapped group (groupAs held s)) ≡ stepOn job (line s)
+    → stepOn job s (mapped group (groupAs held s)) ≡ stepOn job s (line s)
 unfolding lineAs mapped orElse
 line-is-group job p l holds s h =
-    sym (ap (λ p. stepOn job (orElse (mapped unit p) (mapped group (groupAs held s)))) h)
+    sym (ap (λ p. stepOn job s (orElse (mapped unit p) (mapped group (groupAs held s)))) h)
     ∙ step-held job s (omega (arith, holds .units, holds .bounded .units))
 
 -- a unit line is taken as one
 pub line-is-unit : (job : Job) (p : Progress) (l : Lists) → ReadSoFar job p l → (s : List ℕ) (u : UnitLine) (r : List ℕ) → unitAs held s ≡ parsed u r
-    → stepOn job (parsed (unit u) r) ≡ stepOn job (line s)
+    → stepOn job s (parsed (unit u) r) ≡ stepOn job s (line s)
 unfolding lineAs mapped orElse
 line-is-unit job p l holds s u r h =
-    sym (ap (λ p. stepOn job (orElse (mapped unit p) (mapped group (groupAs held s)))) h)
+    sym (ap (λ p. stepOn job s (orElse (mapped unit p) (mapped group (groupAs held s)))) h)
     ∙ step-held job s (omega (arith, holds .units, holds .bounded .units))

@@ -9,6 +9,7 @@ use native.Mathlib.Omega.{arith}
 use borrow.Author.Tests.{ne-eqb, eqb-false}
 use lib.Dec.{eqb}
 use lib.ListN.{take}
+use Rattle.ailment.specs.Ailments.{frontLine}
 use Rattle.model.specs.Laws.Tests.{neither}
 use Rattle.model.specs.Shares.{pick}
 use Rattle.model.specs.declared.Limit.{Limit}
@@ -35,6 +36,25 @@ joined-lines (b ∷ s) = by-byte (eqb b 10) (joined-lines s)
     by-byte : (ends : Bool) → joined (linesOf s) ≡ s → joined (pick ends ((b ∷ []) ∷ linesOf s) (ahead b (linesOf s))) ≡ b ∷ s
     by-byte true again = ap (λ r. b ∷ r) again
     by-byte false again = joined-ahead b (linesOf s) ∙ ap (λ r. b ∷ r) again
+
+-- the first line of a text and what is after it
+abbrev FirstLine : List ℕ → Type 0
+FirstLine s = (rest : List ℕ) × (s ≡ frontLine s ++ rest) × (linesOf s ≡ frontLine s ∷ linesOf rest)
+
+pub first-line-of : (b : ℕ) (s : List ℕ) → FirstLine (b ∷ s)
+unfolding frontLine linesOf ahead
+first-line-of b [] = by-byte (eqb b 10)
+  where
+    by-byte : (t : Bool) → (rest : List ℕ) × (b ∷ [] ≡ (b ∷ pick t [] []) ++ rest) × (pick t ((b ∷ []) ∷ []) ((b ∷ []) ∷ []) ≡ (b ∷ pick t [] []) ∷ linesOf rest)
+    by-byte true = ([], refl, refl)
+    by-byte false = ([], refl, refl)
+first-line-of b (c ∷ s) = by-byte (eqb b 10) (first-line-of c s)
+  where
+    by-byte : (t : Bool) → FirstLine (c ∷ s)
+        → (rest : List ℕ) × (b ∷ c ∷ s ≡ (b ∷ pick t [] (frontLine (c ∷ s))) ++ rest)
+        × (pick t ((b ∷ []) ∷ linesOf (c ∷ s)) (ahead b (linesOf (c ∷ s))) ≡ (b ∷ pick t [] (frontLine (c ∷ s))) ∷ linesOf rest)
+    by-byte true first = (c ∷ s, refl, refl)
+    by-byte false (rest, cut, lines) = (rest, ap (λ r. b ∷ r) cut, ap (ahead b) lines)
 
 -- bytes that are one line: byte 10 ends them and stands nowhere else
 pub record OneLine (bytes : List ℕ) : Type 0 where
@@ -68,22 +88,22 @@ line-ahead w none one = record {
   inside = both-without 10 w (one .body) none (one .inside);
 }
 
--- a number's bytes are digits
-number-without : (n v : ℕ) → v < n → contains 10 (printNumber v) ≡ false
+-- a number's bytes are digits: no byte below them is among them
+pub number-without : (x : ℕ) → x < 48 → (n v : ℕ) → v < n → contains x (printNumber v) ≡ false
 unfolding contains
-number-without zero v h = absurd (omega arith)
-number-without (suc n) v h =
+number-without x low zero v h = absurd (omega arith)
+number-without x low (suc n) v h =
     elim (decLt v 10) [
-      | yes p ↦ rw (print-one v p, ne-eqb 10 (48 + v) (λ e. omega arith))
+      | yes p ↦ rw (print-one v p, ne-eqb x (48 + v) (λ e. omega arith))
       | no p ↦
           let f : v / 10 < v = div-lt-self (omega arith) (omega arith) in
           rw (print-more v (omega arith))
-          (both-without 10 (printNumber (v / 10)) _ (number-without n (v / 10) (omega arith)) (rw (ne-eqb 10 (48 + v % 10) (λ e. omega arith))))
+          (both-without x (printNumber (v / 10)) _ (number-without x low n (v / 10) (omega arith)) (rw (ne-eqb x (48 + v % 10) (λ e. omega arith))))
     ]
 
 -- a number ahead of a line
 pub number-ahead : (v : ℕ) {bytes : List ℕ} → OneLine bytes → OneLine (printNumber v ++ bytes)
-number-ahead v one = line-ahead (printNumber v) (number-without (suc v) v (omega arith)) one
+number-ahead v one = line-ahead (printNumber v) (number-without 10 (omega arith) (suc v) v (omega arith)) one
 
 -- a limit
 limit-ahead : (l : Limit) {bytes : List ℕ} → OneLine bytes → OneLine (printLimit l ++ bytes)

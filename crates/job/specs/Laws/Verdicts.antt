@@ -8,24 +8,14 @@ use borrow.Author.Tests.{le-leb, lt-ltb, eq-eqb, leb-true, ltb-true, eqb-true}
 use lib.Dec.{leb, ltb, eqb}
 use Rattle.model.specs.Figures.{greatestDeviation, greatestSpread, limitWithin}
 use Rattle.groups.specs.Inner.Flat.{mostWord, Coded}
+use Rattle.model.specs.Laws.Refusals.{unless-zero}
+use Rattle.model.specs.Refusals.{unless}
 use Rattle.model.specs.Shares.{greatestShare, greatestTotal, mostUnits}
 use Rattle.model.specs.declared.Limit.{Limit}
 use Rattle.model.specs.declared.Limit.the-variants.{Any, AtMost}
 use Rattle.model.specs.declared.Limits.{Limits}
 use Rattle.job.specs.Form.{UnitLine, shut, lineLow, lineHigh}
-use Rattle.job.specs.Job.{mostGroups, mostMemberships, allNamed, distinct, unless, unitVerdict, headVerdict, membersVerdict, firstRefusal}
-
--- a test that holds leaves the verdict to those after it
-pub passes : {t : Bool} (n : ℕ) {v r : ℕ} → t ≡ true → v ≡ r → v ≡ unless t n r
-passes n h e = rw h e
-
--- one that fails is the verdict
-pub fails : {t : Bool} {n : ℕ} (r : ℕ) → t ≡ false → n ≡ unless t n r
-fails r h = rw h
-
-unless-zero : (t : Bool) (n r : ℕ) → unless t (suc n) r ≡ 0 → (t ≡ true) × (r ≡ 0)
-unless-zero true n r h = (refl, h)
-unless-zero false n r h = absurd (omega arith)
+use Rattle.job.specs.Job.{mostGroups, mostMemberships, allNamed, distinct, unitVerdict, headVerdict, membersVerdict, firstRefusal}
 
 -- the first that is one is the verdict
 pub first-some : {a : ℕ} (b : ℕ) → (a ≡ 0 → ⊥) → a ≡ firstRefusal a b

@@ -26,6 +26,11 @@ pub refuted : (b : Bool) → (b ≡ true → ⊥) → b ≡ false
 refuted true none = absurd (none refl)
 refuted false none = refl
 
+-- one that cannot fail holds
+pub upheld : (b : Bool) → (b ≡ false → ⊥) → b ≡ true
+upheld true none = refl
+upheld false none = absurd (none refl)
+
 -- a test of two fails where the second does
 pub right-fails : (a : Bool) {b : Bool} → b ≡ false → a && b ≡ false
 right-fails true e = e

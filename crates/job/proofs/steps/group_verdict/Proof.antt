@@ -8,7 +8,8 @@ use native.Mathlib.Omega.{arith}
 use borrow.Author.Needs.{needs}
 use Rattle.job.specs.Job.{distinct}
 use Rattle.job.specs.Inner.Placed.{headNumber, groupNumber}
-use Rattle.job.specs.Laws.Verdicts.{passes, fails, first-some, first-none}
+use Rattle.model.specs.Laws.Refusals.{passes, fails}
+use Rattle.job.specs.Laws.Verdicts.{first-some, first-none}
 use Rattle.job.proofs.steps.group_verdict.Statement.{statement}
 use Rattle.job.proofs.steps.group_verdict.Tie as tie
 

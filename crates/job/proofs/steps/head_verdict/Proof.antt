@@ -6,8 +6,9 @@ use mathlib.Core.Path.{_≡_, refl, sym, _∙_}
 use lib.Dec.{leb}
 use Rattle.model.specs.Figures.{greatestDeviation, greatestSpread, limitWithin}
 use Rattle.model.specs.Shares.{greatestTotal}
-use Rattle.job.specs.Job.{mostMemberships, unless, headVerdict}
-use Rattle.job.specs.Laws.Verdicts.{passes, fails}
+use Rattle.model.specs.Laws.Refusals.{passes, fails}
+use Rattle.model.specs.Refusals.{unless}
+use Rattle.job.specs.Job.{mostMemberships, headVerdict}
 use native.Mathlib.Omega.{arith}
 use borrow.Author.Needs.{needs}
 use Rattle.job.proofs.steps.head_verdict.Statement.{statement}

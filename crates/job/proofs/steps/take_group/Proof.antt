@@ -40,20 +40,23 @@ enum-known-head c = search needs
 enum-told : tie.Need-enum-told
 enum-told c = search needs
 
+ailment-requires : tie.Need-ailment-requires
+ailment-requires c κs = search needs
+
 refuse-requires : tie.Need-refuse-requires
 refuse-requires c κs = search needs
 
 same-length : tie.Need-same-length
-same-length c = c .before .before .before .before .before .group-line .kept .1 .1 .0
+same-length c = c .before .before .before .before .before .before .group-line .kept .1 .1 .0
 
 returns : tie.Need-returns
 unfolding mapped
 returns c = λ job lows₀ highs₀ flat₀ lows highs holds.
-    let l = c .before .before .before .before .before in
+    let l = c .before .before .before .before .before .before in
     let a = l .before .before .before .before .args in
-    let none = told (groupSeen (a .text .now) _) (l .group-line .ensures) (c .before .enum-told .given .1) in
-    rw (c .refuse .ensures, mapped-failed (groupTally (a .progress .units) (membersFrom (a .progress)) (a .flat .now)) (groupAs held (bytesFrom (a .text .now) (a .spot))) none)
-    (not-in-form job (a .progress) _ holds)
+    let none = told (groupSeen (a .text .now) _) (l .group-line .ensures) (c .before .before .enum-told .given .1) in
+    rw (c .refuse .ensures, c .before .ailment .ensures, mapped-failed (groupTally (a .progress .units) (membersFrom (a .progress)) (a .flat .now)) (groupAs held (bytesFrom (a .text .now) (a .spot))) none)
+    (not-in-form job (a .progress) _ holds (bytesFrom (a .text .now) (a .spot)))
 
 -- what is known of the line once it was read
 seen : (h : tie.After-head) →
@@ -94,7 +97,7 @@ returns-2 c = λ job lows₀ highs₀ flat₀ lows highs holds.
     let h = v .before .before .before in
     let f = seen h in
     rw (c .refuse2 .ensures, f .read)
-    (group-refused job (h .before .before .before .before .before .before .before .before .args .progress) _ holds (f .line) _ (v .group-verdict .result) (verdict v) (c .before .if1 .taken))
+    (group-refused job (h .before .before .before .before .before .before .before .before .args .progress) _ holds (f .line) _ _ (v .group-verdict .result) (verdict v) (c .before .if1 .taken))
 
 -- a head without a refusal
 good : (e : tie.Else1) →
@@ -118,8 +121,8 @@ put-group-requires c κs =
 add-t18 : tie.Need-add-t18
 add-t18 c = search needs
 
-add-t28 : tie.Need-add-t28
-add-t28 c =
+add-t29 : tie.Need-add-t29
+add-t29 c =
     let e = c .before .before .before .before .before in
     omega (arith, good e .fits, seen (e .before .before .before .before) .counted)
 
@@ -138,7 +141,7 @@ returns-3 c = λ job lows₀ highs₀ flat₀ lows highs holds.
     let at = flatLength (p .groups) (p .memberships) in
     let stored = c .before .before .before .put-group .ensures ∙ heads-alike (h .before .before .before .before .group-line .last .1 .1 .0) at (sym (f .total)) (sym (f .limits)) (sym (f .counted)) ∙ ap (λ x. sets x at (headNumbers job p _ holds (f .line))) (f .stored) in (
       add job (group (f .line)),
-      ap (λ x. stepOn job (mapped group x)) (f .read) ∙ group-next job p _ holds (f .line) _ none,
+      ap (λ x. stepOn job (bytesFrom (s .args .text .now) (s .args .spot)) (mapped group x)) (f .read) ∙ group-next job p _ holds (f .line) _ _ none,
       group-holds job p _ holds (f .line) _ _ (first-zero _ _ none .0) (s .pre .2) (f .counted) stored,
     )
 
@@ -152,6 +155,7 @@ take-group-spec =
     group-line-requires
     enum-known-head
     enum-told
+    ailment-requires
     refuse-requires
     same-length
     returns
@@ -161,6 +165,6 @@ take-group-spec =
     returns-2
     put-group-requires
     add-t18
-    add-t28
+    add-t29
     same-length-3
     returns-3)

@@ -55,7 +55,7 @@ returns-2 c = λ job lows₀ highs₀ flat₀ holds.
     let a = u .before .before .before .before .before .args in
     let m = mapped-parsed keptUnit (unitAs held (bytesFrom (a .text .now) (a .spot))) (told (unitSeen (a .text .now)) (u .unit-line .ensures) (w .unit .given .1)) in
     rw (← line-is-unit job (a .progress) _ holds _ _ _ (m .1))
-    (t .take-unit .ensures (a .text .now) job lows₀ highs₀ flat₀ (m .0) (m .2) holds)
+    (t .take-unit .ensures (a .text .now) (bytesFrom (a .text .now) (a .spot)) job lows₀ highs₀ flat₀ (m .0) (m .2) holds)
 
 pub take-line-spec : {M : Type 1} → statement M
 take-line-spec =

@@ -16,10 +16,10 @@ refuse-requires : tie.Need-refuse-requires
 refuse-requires c κs = search needs
 
 returns : tie.Need-returns
-returns c = λ text job lows₀ highs₀ flat₀ l is holds.
+returns c = λ text from job lows₀ highs₀ flat₀ l is holds.
     let v = c .before .before in
     let a = v .before .before .before .before .args in
-    rw (c .refuse .ensures) (unit-refused job (a .progress) _ holds l _ (v .unit-verdict .result) (v .unit-verdict .ensures ∙ verdict-kept (a .progress) l (a .unit) is) (c .before .if1 .taken))
+    rw (c .refuse .ensures) (unit-refused job (a .progress) _ holds l from _ (v .unit-verdict .result) (v .unit-verdict .ensures ∙ verdict-kept (a .progress) l (a .unit) is) (c .before .if1 .taken))
 
 mul-lows : tie.Need-mul-lows
 mul-lows c = search needs
@@ -62,7 +62,7 @@ same-length-3 : tie.Need-same-length-3
 same-length-3 c = c .before .before .put-mark .kept .0
 
 returns-2 : tie.Need-returns-2
-returns-2 c = λ text job lows₀ highs₀ flat₀ l is holds.
+returns-2 c = λ text from job lows₀ highs₀ flat₀ l is holds.
     let p = c .before .before in
     let e = p .before .before in
     let v = e .before in
@@ -70,7 +70,7 @@ returns-2 c = λ text job lows₀ highs₀ flat₀ l is holds.
     let a = s .args in
     let good = sym (v .unit-verdict .ensures ∙ verdict-kept (a .progress) l (a .unit) is) ∙ e .if1 .left in (
       add job (unit l),
-      unit-next job (a .progress) _ holds l _ good,
+      unit-next job (a .progress) _ holds l from _ good,
       rw (p .put-mark .ensures, ← is) (unit-holds job (a .progress) _ holds l good (s .pre .1) (s .pre .2) (s .pre .3)),
     )
 

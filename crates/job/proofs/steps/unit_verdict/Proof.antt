@@ -7,8 +7,9 @@ use mathlib.Core.Path.{_≡_, refl}
 use lib.Dec.{leb, eqb}
 use Rattle.model.specs.Shares.{greatestShare}
 use Rattle.model.specs.Laws.Shares.{valid-is-share, beyond-no-share}
-use Rattle.job.specs.Job.{unless, unitVerdict}
-use Rattle.job.specs.Laws.Verdicts.{passes, fails}
+use Rattle.model.specs.Laws.Refusals.{passes, fails}
+use Rattle.model.specs.Refusals.{unless}
+use Rattle.job.specs.Job.{unitVerdict}
 use Rattle.job.proofs.steps.unit_verdict.Statement.{statement}
 use Rattle.job.proofs.steps.unit_verdict.Tie as tie
 

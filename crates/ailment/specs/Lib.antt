@@ -1,0 +1,3 @@
+pub mod Ailments
+pub mod Sentences
+pub mod Laws
