@@ -12,7 +12,6 @@ ghost use Rattle.job.specs.Inner.Steps.{Bounded, UnitTaken, GroupTaken, 
 ghost use Rattle.job.specs.Inner.Taking.{placeAt};
 ghost use Rattle.model.specs.Shares.{mostUnits};
 ghost use Rattle.model.specs.Refusals.{refusal};
-use ailment::ailment;
 use crate::lines::GroupRead;
 use crate::lines::Head;
 use crate::lines::Members;
@@ -20,6 +19,7 @@ use crate::lines::Unit;
 use crate::lines::UnitRead;
 use crate::lines::group_line;
 use crate::lines::unit_line;
+use ailment::ailment;
 use groups::HEAD;
 use groups::put_group;
 use groups::put_mark;

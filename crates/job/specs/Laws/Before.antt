@@ -8,7 +8,7 @@ use native.Mathlib.Omega.{arith}
 use borrow.Author.Tests.{ne-eqb, lt-leb}
 use lib.Dec.{leb, ltb, eqb}
 use lib.ListN.{length}
-use Rattle.ailment.specs.Ailments.{frontLine, ended, paired, opens, ailmentOf}
+use Rattle.ailment.specs.Ailments.{frontLine, ended, paired, isNamed, ailmentOf}
 use Rattle.groups.specs.Memberships.{memberships}
 use Rattle.model.specs.Refusals.{refusal, unless}
 use Rattle.model.specs.Figures.{greatestDeviation, greatestSpread, limitWithin}
@@ -60,7 +60,7 @@ verdict-apart {v} (inr h) = rw (ne-eqb v 3 (λ e. omega arith), lt-leb 13 v (ome
 -- what ails a line is one
 pub ailment-form : (bytes : List ℕ) → ofForm (ailmentOf bytes) ≡ true
 unfolding ailmentOf ofForm
-ailment-form bytes = by-tests (ended bytes) (paired 0 0 bytes) (opens bytes)
+ailment-form bytes = by-tests (ended bytes) (paired 0 0 bytes) (isNamed bytes)
   where
     by-tests : (e p o : Bool) → ofForm (unless e 13 (unless p 14 (unless o 15 3))) ≡ true
     by-tests false p o = refl

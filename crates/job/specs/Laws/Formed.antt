@@ -6,7 +6,7 @@ use mathlib.Core.Path.{_≡_, refl, sym, ap, _∙_}
 use native.Mathlib.Omega.{arith}
 use borrow.Author.Tests.{eqb-false, le-leb}
 use lib.Dec.{eqb}
-use Rattle.ailment.specs.Ailments.{ended, opening, closing, paired, isRun, letterNext, isName, opens, ailmentOf}
+use Rattle.ailment.specs.Ailments.{ended, paired, isRun, letterNext, isName, isNamed, ailmentOf}
 use Rattle.ailment.specs.Laws.Sentences.{bracket-none}
 use Rattle.model.specs.Laws.Tests.{neither, either-right}
 use Rattle.model.specs.declared.Limit.{Limit}
@@ -24,12 +24,12 @@ calm-ahead : (w : List ℕ) → contains 40 w ≡ false → contains 41 w ≡ fa
 unfolding contains paired
 calm-ahead [] p q opened closed few s = refl
 calm-ahead (b ∷ w) p q opened closed few s =
-    let (not-opening, opens) = neither (eqb 40 b) (contains 40 w) p in
-    let (not-closing, closes) = neither (eqb 41 b) (contains 41 w) q in
+    let (not-opening, unopened) = neither (eqb 40 b) (contains 40 w) p in
+    let (not-closing, unclosed) = neither (eqb 41 b) (contains 41 w) q in
     let (none, nor) = bracket-none b (λ e. eqb-false 40 b not-opening (sym e)) (λ e. eqb-false 41 b not-closing (sym e)) in
     let same : opened + 0 ≡ opened = omega arith in
     let too : closed + 0 ≡ closed = omega arith in
-    rw (none, nor, same, too, le-leb closed opened few) (calm-ahead w opens closes opened closed few s)
+    rw (none, nor, same, too, le-leb closed opened few) (calm-ahead w unopened unclosed opened closed few s)
 
 number-calm : (v opened closed : ℕ) → closed ≤ opened → (s : List ℕ) → paired opened closed (printNumber v ++ s) ≡ paired opened closed s
 number-calm v =
@@ -65,11 +65,11 @@ printed-paired (group g) =
     ∙ members-calm (g .first ∷ g .others) 4 2 (omega arith) groupEnding
 
 -- it begins with a name
-printed-opens : (l : Line) → opens (printLine l) ≡ true
-unfolding printLine opens isName isRun word letterNext
-printed-opens (unit (range low high)) = refl
-printed-opens (unit shut) = refl
-printed-opens (group g) = refl
+printed-named : (l : Line) → isNamed (printLine l) ≡ true
+unfolding printLine isNamed isName isRun word letterNext
+printed-named (unit (range low high)) = refl
+printed-named (unit shut) = refl
+printed-named (group g) = refl
 
 -- byte 10 ends it
 ended-last : (w : List ℕ) → ended (w ++ 10 ∷ []) ≡ true
@@ -80,4 +80,4 @@ ended-last (b ∷ w) = either-right (eqb b 10) (ended-last w)
 -- so of 13, 14 and 15 it has none, in whichever order they and the form are asked
 pub printed-well : (l : Line) → ailmentOf (printLine l) ≡ 3
 unfolding ailmentOf
-printed-well l = rw (ap ended (printed-one l .ended) ∙ ended-last (printed-one l .body), printed-paired l, printed-opens l)
+printed-well l = rw (ap ended (printed-one l .ended) ∙ ended-last (printed-one l .body), printed-paired l, printed-named l)
