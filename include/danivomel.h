@@ -34,13 +34,14 @@ extern "C" {
  * The numbers of refusals, and their places. Lines, units and groups are counted from 1. Calls on lists of one group
  * (danivomel_level, danivomel_narrow) refuse 1, 4, 7, 11 and 12 only, and their place is a unit or 0. In calls on a job
  * text 4 and 7 have a line for their place where the text is at fault, and a unit where a range of the table is. Reading
- * and writing (danivomel_read, danivomel_write) refuse 1 to 10 only.
+ * and writing (danivomel_read, danivomel_write) refuse 1 to 10 and 13 to 15 only. A line that is not in the form has
+ * the first of 13, 14, 15 and 3 that applies to it.
  */
 enum {
     DANIVOMEL_DONE = 0,                /* not refused */
     DANIVOMEL_BAD_LISTS = 1,           /* a list, table, scratch or buffer of a wrong length, see each call; place 0 */
     DANIVOMEL_TEXT_TOO_LONG = 2,       /* text over 65,536 bytes; place 0 */
-    DANIVOMEL_NOT_IN_FORM = 3,         /* line not in the form; place the line */
+    DANIVOMEL_NOT_IN_FORM = 3,         /* line not in the form, and none of 13 to 15; place the line */
     DANIVOMEL_BEYOND_RANGE = 4,        /* number beyond its range, a mark too; place the line, the unit, or 0 for total
                                           and limits of a group on lists */
     DANIVOMEL_UNIT_AFTER_GROUP = 5,    /* unit line, or (shut), after a group line; place the line */
@@ -52,7 +53,12 @@ enum {
     DANIVOMEL_NO_UNITS = 10,           /* no unit line and no (shut); place 0 */
     DANIVOMEL_TOTAL_OUT_OF_REACH = 11, /* lows add up to more than the total, or highs to less; place the group of the
                                           text, or 0 for a group on lists */
-    DANIVOMEL_NONE_WITHIN_LIMITS = 12  /* shares exist, none within the limits; place as for 11 */
+    DANIVOMEL_NONE_WITHIN_LIMITS = 12, /* shares exist, none within the limits; place as for 11 */
+    DANIVOMEL_LINE_NOT_ENDED = 13,     /* last line without byte 10, whatever else ails it; place the line */
+    DANIVOMEL_BRACKETS_UNPAIRED = 14,  /* at some byte of the line more closing than opening brackets so far, or not as
+                                          many of both at its end; place the line */
+    DANIVOMEL_LINE_NOT_NAMED = 15      /* line that does not begin with (unit, (group or (shut and no letter after it;
+                                          place the line */
 };
 
 /* The marks of a group's members in calls on lists. */
@@ -142,8 +148,8 @@ typedef struct {
 } danivomel_range;
 
 /*
- * What reading a job text answers. On every refusal (1 to 10) both counts are 0. On success units is 1 to 256, and
- * groups is 0 to 64.
+ * What reading a job text answers. On every refusal (1 to 10, 13 to 15) both counts are 0. On success units is 1 to
+ * 256, and groups is 0 to 64.
  */
 typedef struct {
     danivomel_refusal refusal;
@@ -153,8 +159,8 @@ typedef struct {
 
 /*
  * Reads a job text into a table: afterwards the table begins with the ranges of the unit lines, 0 to 0 for (shut).
- * Refuses, in this order: 2; the first bad line with the lowest of 3 to 9; 10; 1 for a table with fewer entries than
- * the job has units. 256 entries are always enough.
+ * Refuses, in this order: 2; the first bad line with the first of 13, 14, 15 and 3 to 9 that applies to it; 10; 1 for a
+ * table with fewer entries than the job has units. 256 entries are always enough.
  */
 danivomel_counts danivomel_read(
     const uint8_t *text, size_t text_count,
@@ -162,7 +168,7 @@ danivomel_counts danivomel_read(
 
 /*
  * What settling answers. The passes, the last one counted, are at least 1 on success and for 11 and 12. They are 0 for
- * 1 to 10, which come ahead of the first pass.
+ * all others, which come ahead of the first pass.
  */
 typedef struct {
     danivomel_refusal refusal;
@@ -186,7 +192,7 @@ danivomel_settled danivomel_settle(
 
 /*
  * What reporting answers. On success both passes and length are at least 1. For 11 and 12 the passes are at least 1 and
- * the length is 0. For 1 to 10 both are 0.
+ * the length is 0. For all other refusals both are 0.
  */
 typedef struct {
     danivomel_refusal refusal;
@@ -205,7 +211,7 @@ danivomel_reported danivomel_report(
     uint64_t *scratch, size_t scratch_count,
     uint8_t *buffer, size_t buffer_count);
 
-/* What writing answers. On every refusal (1 to 10) the length is 0. On success it is 7 to 26,752. */
+/* What writing answers. On every refusal (1 to 10, 13 to 15) the length is 0. On success it is 7 to 26,752. */
 typedef struct {
     danivomel_refusal refusal;
     size_t length;

@@ -181,13 +181,13 @@ pub fn sound_text(bytes: usize) -> Vec<u8> {
 }
 
 /// A text of so many bytes, more than a sound one has: after a sound text comes a group line with more memberships than
-/// a job may have, which is read to its end and then refused.
-pub fn long_text(bytes: usize) -> Vec<u8> {
+/// a job may have, which begins with a name and has an ending after its members.
+pub fn long_text(bytes: usize, name: &str, ending: &str) -> Vec<u8> {
     let mut text = sound_text(24 * 1_024);
-    text.extend_from_slice(b"(group 0 (dev any) (spread any) (of 1");
-    while text.len() + 4 < bytes {
+    text.extend_from_slice(format!("({name} 0 (dev any) (spread any) (of 1").as_bytes());
+    while text.len() + ending.len() + 1 < bytes {
         text.extend_from_slice(b" 2");
     }
-    text.extend_from_slice(b"))\n");
+    text.extend_from_slice(ending.as_bytes());
     text
 }

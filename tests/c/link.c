@@ -155,7 +155,7 @@ static int refused_texts(void) {
     const uint8_t *job = (const uint8_t *)text;
     size_t length = strlen(text);
     memset(buffer, 0xa5, sizeof buffer);
-    int faults = same_refusal(danivomel_write(job, length - 1, table, 3, buffer, 200), 13, 5);
+    int faults = same_refusal(danivomel_write(job, length - 1, table, 3, buffer, 200), DANIVOMEL_LINE_NOT_ENDED, 5);
     faults += same_refusal(danivomel_write(job, 0, table, 3, buffer, 200), DANIVOMEL_NO_UNITS, 0);
     faults += same_refusal(danivomel_write(job, length, table, 2, buffer, 200), DANIVOMEL_BAD_LISTS, 0);
     faults += same_refusal(danivomel_write(job, length, table, 3, buffer, 8), DANIVOMEL_BAD_LISTS, 0);

@@ -31,7 +31,11 @@ pub fn run() -> (Table, Vec<Times>) {
         ("1 KiB", sound_text(1_024)),
         ("8 KiB", sound_text(8 * 1_024)),
         ("24 KiB", sound_text(24 * 1_024)),
-        ("64 KiB", long_text(64 * 1_024)),
+        ("64 KiB", long_text(64 * 1_024, "group", "))\n")),
+        ("64 KiB, a space at its end", long_text(64 * 1_024, "group", ")) \n")),
+        ("64 KiB, no line feed at its end", long_text(64 * 1_024, "group", "))")),
+        ("64 KiB, a bracket missing", long_text(64 * 1_024, "group", ")\n")),
+        ("64 KiB, a word misspelt", long_text(64 * 1_024, "groups", "))\n")),
     ];
     for (name, text) in texts {
         let times = in_turn(READS.iter().map(|who| contender(*who, &text)).collect(), 1);

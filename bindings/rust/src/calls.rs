@@ -101,8 +101,8 @@ pub fn narrow(lows: &mut [u64], highs: &mut [u64], marks: &[u64], total: u64, li
 ///
 /// # Errors
 ///
-/// In this order: 2 for a text over 65,536 bytes; the lowest of 3 to 9 at the first bad line, place the line; 10 for no
-/// unit line; 1 for a table too short for the units. The table is then as it was.
+/// In this order: 2 for a text over 65,536 bytes; the first of 13, 14, 15 and 3 to 9 at the first bad line, place the
+/// line; 10 for no unit line; 1 for a table too short for the units. The table is then as it was.
 ///
 /// ```
 /// use danivomel::{read, Range};

@@ -12,7 +12,7 @@ use std::fmt::{Display, Formatter, Result};
 #[repr(C)]
 #[derive(Clone, Copy, Debug, PartialEq, Eq)]
 pub struct Refusal {
-    /// What is wrong, from 1 to 12.
+    /// What is wrong, from 1 to 15.
     pub number: u64,
     /// Where it is wrong, counted from 1: a line of the job text, a unit of lists or of a table, or a group; else 0.
     pub place: u64,
@@ -39,6 +39,9 @@ impl Refusal {
             10 => "no unit line at all",
             11 => "the group's total cannot be made: the lows add up to more, or the highs to less",
             12 => "the total can be made, but every way breaks a limit",
+            13 => "the last line has no line feed at its end",
+            14 => "the brackets of the line do not match",
+            15 => "the line does not begin with (unit, (group or (shut",
             _ => "no refusal has this number",
         }
     }

@@ -1,6 +1,6 @@
 -- What ails a line that is not in the form: 02's 13, 14 and 15, "tried in that order just ahead of 3". Assumes nothing.
 use Prim.Native.Nat.{ℕ, _+_}
-use mathlib.Core.Bool.{Bool, true, false, not, _&&_, _||_}
+use mathlib.Core.Bool.{Bool, false, not, _&&_, _||_}
 use mathlib.Core.List.{List, [], _∷_}
 use lib.Dec.{leb, eqb}
 use Rattle.model.specs.Refusals.{unless}

@@ -14,7 +14,7 @@ use Rattle.model.specs.Refusals.{unless}
 use Rattle.model.specs.Shares.{pick, sumOf}
 use Rattle.text.specs.Kinds.{kindOf, isOpening, isClosing, isLetter}
 use Rattle.text.specs.Parsed.{word}
-use Rattle.text.specs.declared.Kind.the-variants.{Opening, Closing, Space, Digit, Letter, Foreign}
+use Rattle.text.specs.declared.Kind.the-variants.{Space, Digit, Letter, Foreign}
 use Rattle.text.specs.Words.{bytes}
 use Rattle.ailment.specs.Ailments.{ended, openings, closings, paired, letterNext, isRun, isName, isNamed, ailmentOf}
 use Rattle.ailment.specs.Laws.Walking.{run-step}

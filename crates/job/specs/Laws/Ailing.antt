@@ -1,5 +1,5 @@
 -- A text is refused with 13, 14, 15 or 3 exactly if its first bad line is not in the form and has that number. Assumes nothing.
-use Prim.Native.Nat.{ℕ, zero, suc, _≤_, _<_}
+use Prim.Native.Nat.{ℕ, zero, suc, _≤_}
 use mathlib.Core.Bool.{Bool, true, false}
 use mathlib.Core.List.{List, [], _∷_, _++_}
 use mathlib.Core.Logic.{_↔_}
@@ -11,14 +11,14 @@ use lib.ListN.{length, length-append}
 use Rattle.ailment.specs.Ailments.{frontLine, ended, ailmentOf}
 use Rattle.ailment.specs.Laws.Sentences.{none-ended, ails-exactly}
 use Rattle.ailment.specs.Laws.Walking.{ended-front, whole-line}
-use Rattle.ailment.specs.Sentences.{Unended, Ails}
+use Rattle.ailment.specs.Sentences.{Unended}
 use Rattle.model.specs.Laws.Tests.{clash}
 use Rattle.model.specs.Refusals.{refusal}
 use Rattle.model.specs.Shares.{pick}
 use Rattle.model.specs.declared.Refusal.{Refusal}
 use Rattle.text.specs.Parsed.{Parsed, parsed, failed}
 use Rattle.job.specs.Form.{Line, printLine, line}
-use Rattle.job.specs.Job.{Job, mostBytes, verdict, add, next, stop, placeOf, judged, stepOn, JobOrRefusal, accepted, refused, onward, readLines, noLines, someUnit}
+use Rattle.job.specs.Job.{Job, mostBytes, verdict, add, next, placeOf, judged, stepOn, JobOrRefusal, accepted, refused, onward, readLines, noLines, someUnit}
 use Rattle.job.specs.Job.{readJob}
 use Rattle.job.specs.Laws.Reading.{line-long, read-next, read-stop}
 use Rattle.job.specs.Laws.Spelling.{line-printed, printed-line}
@@ -113,14 +113,14 @@ ails-read n {job} {number = number} {place = place} (Ailing.here {bytes = bytes}
     let none = strange-fails b s (λ l is. strange l (first ∙ is)) in
     let number-is : ailmentOf (frontLine (b ∷ s)) ≡ number = ap ailmentOf (sym first) ∙ ails-exactly bytes number .1 ails in
     read-stop n job (b ∷ s) (refusal number place) (omega arith) short (rw (none, number-is, at))
-ails-read n (Ailing.later l is good later) [] are short = absurd (let z : _≡_ {A = ℕ} 0 1 = cc in omega arith)
-ails-read n {job} (Ailing.later l is good later) (b ∷ s) are short =
+ails-read n (Ailing.later l is good behind) [] are short = absurd (let z : _≡_ {A = ℕ} 0 1 = cc in omega arith)
+ails-read n {job} (Ailing.later l is good behind) (b ∷ s) are short =
     let (rest, cut, others) = first-line-of b s in
     let first = heads (are ∙ others) in
     let spelled : b ∷ s ≡ printLine l ++ rest = cut ∙ ap (λ w. w ++ rest) (sym first ∙ is) in
     let steps : stepOn job (b ∷ s) (line (b ∷ s)) ≡ next (add job l) rest = rw (ap line spelled ∙ line-printed l rest, good) in
     let (m, fits, shorter, reads) = read-next n job (b ∷ s) (add job l) rest (omega arith) short steps in
-    reads ∙ ails-read m later rest (tails (are ∙ others)) fits
+    reads ∙ ails-read m behind rest (tails (are ∙ others)) fits
 
 -- a line of a text without byte 10 is its last
 pub last-line : (s : List ℕ) (front : List (List ℕ)) {bytes : List ℕ} {rest : List (List ℕ)} → linesOf s ≡ front ++ bytes ∷ rest → Unended bytes → rest ≡ []

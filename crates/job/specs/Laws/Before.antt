@@ -1,6 +1,6 @@
 -- What 02's item 3 moved, and that nothing else did. Assumes nothing.
-use Prim.Native.Nat.{ℕ, zero, suc, _+_, _≤_, _<_}
-use mathlib.Core.Bool.{Bool, true, false, not, _&&_, _||_}
+use Prim.Native.Nat.{ℕ, zero, suc, _+_, _≤_}
+use mathlib.Core.Bool.{Bool, true, false}
 use mathlib.Core.List.{List, [], _∷_}
 use mathlib.Core.Logic.{_⊎_, inl, inr, _↔_}
 use mathlib.Core.Path.{_≡_, refl, sym, ap, _∙_}
@@ -15,24 +15,24 @@ use Rattle.model.specs.Figures.{greatestDeviation, greatestSpread, limitWithin}
 use Rattle.model.specs.Shares.{pick, greatestShare, greatestTotal, mostUnits}
 use Rattle.text.specs.Parsed.{Parsed, parsed, failed}
 use Rattle.job.specs.Form.{lineLow, lineHigh, Line, unit, group, line}
-use Rattle.job.specs.Job.{Job, mostBytes, unitVerdict, headVerdict, membersVerdict, firstRefusal, verdict, add, LineStep, next, stop, placeOf, judged, stepOn}
+use Rattle.job.specs.Job.{Job, mostBytes, unitVerdict, headVerdict, membersVerdict, firstRefusal, verdict, add, placeOf, judged, stepOn}
 use Rattle.job.specs.Job.{mostGroups, mostMemberships, allNamed, distinct, JobOrRefusal, accepted, refused, onward, readLines, noLines, someUnit, readJob}
 use Rattle.job.specs.Before.{stepBefore, linesBefore, readBefore, ofForm, asBefore}
 
 -- none, or one from 4 to 9
-abbrev Verdict : ℕ → Type 0
-Verdict v = (v ≡ 0) ⊎ ((4 ≤ v) × (v ≤ 9))
+abbrev LineVerdict : ℕ → Type 0
+LineVerdict v = (v ≡ 0) ⊎ ((4 ≤ v) × (v ≤ 9))
 
-unless-verdict : (t : Bool) (n : ℕ) {r : ℕ} → 4 ≤ n → n ≤ 9 → Verdict r → Verdict (unless t n r)
+unless-verdict : (t : Bool) (n : ℕ) {r : ℕ} → 4 ≤ n → n ≤ 9 → LineVerdict r → LineVerdict (unless t n r)
 unless-verdict true n least most rest = rest
 unless-verdict false n least most rest = inr (least, most)
 
-first-verdict : (a b : ℕ) → Verdict a → Verdict b → Verdict (firstRefusal a b)
+first-verdict : (a b : ℕ) → LineVerdict a → LineVerdict b → LineVerdict (firstRefusal a b)
 first-verdict zero b one other = other
 first-verdict (suc a) b one other = one
 
 -- the refusal of a line in the form
-pub line-verdict : (job : Job) (l : Line) → Verdict (verdict job l)
+pub line-verdict : (job : Job) (l : Line) → LineVerdict (verdict job l)
 unfolding verdict unitVerdict headVerdict membersVerdict
 line-verdict job (unit l) =
     unless-verdict (leb (lineLow l) greatestShare) 4 (omega arith) (omega arith)
@@ -52,7 +52,7 @@ line-verdict job (group g) =
     (unless-verdict (distinct ms) 9 (omega arith) (omega arith) (inl refl)))
 
 -- is no number of a line not in the form
-pub verdict-apart : {v : ℕ} → Verdict v → ofForm v ≡ false
+pub verdict-apart : {v : ℕ} → LineVerdict v → ofForm v ≡ false
 unfolding ofForm
 verdict-apart {v} (inl e) = rw e
 verdict-apart {v} (inr h) = rw (ne-eqb v 3 (λ e. omega arith), lt-leb 13 v (omega arith))

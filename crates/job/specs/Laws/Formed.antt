@@ -1,6 +1,6 @@
 -- A line in the form has none of 13, 14 and 15. Assumes nothing.
 use Prim.Native.Nat.{ℕ, suc, _+_, _≤_}
-use mathlib.Core.Bool.{Bool, true, false}
+use mathlib.Core.Bool.{true, false}
 use mathlib.Core.List.{List, [], _∷_, _++_, append-assoc}
 use mathlib.Core.Path.{_≡_, refl, sym, ap, _∙_}
 use native.Mathlib.Omega.{arith}
@@ -13,7 +13,7 @@ use Rattle.model.specs.declared.Limit.{Limit}
 use Rattle.model.specs.declared.Limit.the-variants.{Any, AtMost}
 use Rattle.text.specs.Numbers.{printNumber}
 use Rattle.text.specs.Parsed.{word}
-use Rattle.job.specs.Form.{range, shut, printShut, Line, unit, group, unitOpening, unitEnding, groupOpening, deviationOpening, spreadOpening, membersOpening, groupEnding, space, anyWord}
+use Rattle.job.specs.Form.{range, shut, Line, unit, group, unitEnding, deviationOpening, spreadOpening, membersOpening, groupEnding, space, anyWord}
 use Rattle.job.specs.Form.{printLimit, printMembers, printLine}
 use Rattle.job.specs.Job.{contains}
 use Rattle.job.specs.Laws.TextLines.{number-without, printed-one}

@@ -23,7 +23,7 @@ use Rattle.job.specs.Form.{spreadOpening, membersOpening, groupEnding, a
 use Rattle.job.specs.Form.{numberAs, limitAs, rangeAs, unitAs, membersAs, headAs, grouped, groupAs, lineAs, line}
 use Rattle.groups.specs.Memberships.{memberships}
 use Rattle.model.specs.Refusals.{unless}
-use Rattle.job.specs.Job.{Job, unitVerdict, headVerdict, membersVerdict, verdict, named, allNamed, add, stepOn, judged, distinct, firstRefusal}
+use Rattle.job.specs.Job.{Job, unitVerdict, headVerdict, membersVerdict, verdict, named, allNamed, add, stepOn, judged, distinct}
 use Rattle.model.specs.Laws.Tests.{both-left, both-right}
 use Rattle.job.specs.Laws.Verdicts.{unit-good, head-good, members-good, first-zero}
 
