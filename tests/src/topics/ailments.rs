@@ -1,5 +1,5 @@
 //! What ails a line: 13, 14 and 15, tried in this order ahead of 3, on known lines, with every byte, with many brackets,
-//! on the longest lines and on all short texts; and that they stand in the place of 3 alone.
+//! on the longest lines and on all short texts; and that they come in the place of 3 alone.
 
 use super::filler_table;
 use super::read::{damaged, rebuilt, refused, Shown};
