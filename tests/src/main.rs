@@ -46,6 +46,7 @@ fn independent_planner(checks: &mut Checks) {
     let who = "independent";
     topics::level::run(checks, who, independent::level);
     topics::lists::run_level(checks, who, independent::level);
+    topics::additions::run(checks);
     topics::narrow::run(checks, who, independent::narrow);
     topics::lists::run_narrow(checks, who, independent::narrow);
     topics::marks::run(checks, who, independent::level, independent::narrow);

@@ -76,19 +76,30 @@ pub fn total_at(lows: &[u64], highs: &[u64], v: u64) -> u64 {
     lows.iter().zip(highs).map(|(&low, &high)| clamp(low, high, v)).sum()
 }
 
-/// The greatest v from 0 to 1,000,000 with T(v) at most the total, where T(0) is.
-pub fn level_of(lows: &[u64], highs: &[u64], total: u64) -> u64 {
-    let mut level = 0;
-    let mut top = GREATEST_SHARE + 1;
-    while top - level > 1 {
-        let middle = (level + top) / 2;
-        if total_at(lows, highs, middle) <= total {
-            level = middle;
+/// The last number from `first` to below `past` that holds, where `first` does and none does past one that does not, by
+/// bisection; and how many numbers were asked about.
+pub fn last_that_holds(first: u64, past: u64, holds: impl Fn(u64) -> bool) -> (u64, u32) {
+    let (mut last, mut top, mut asked) = (first, past, 0);
+    while top - last > 1 {
+        let middle = (last + top) / 2;
+        asked += 1;
+        if holds(middle) {
+            last = middle;
         } else {
             top = middle;
         }
     }
-    level
+    (last, asked)
+}
+
+/// The greatest v from 0 to 1,000,000 with T(v) at most the total, where T(0) is.
+pub fn level_of(lows: &[u64], highs: &[u64], total: u64) -> u64 {
+    last_that_holds(0, GREATEST_SHARE + 1, |v| total_at(lows, highs, v) <= total).0
+}
+
+/// How often levelling a group that has shares adds up T(v): for the levels it tries, and for the copies left over.
+pub fn additions(lows: &[u64], highs: &[u64], total: u64) -> u32 {
+    last_that_holds(0, GREATEST_SHARE + 1, |v| total_at(lows, highs, v) <= total).1 + 1
 }
 
 /// Gives each member's levelled share in order, a shut one's 0 too, and answers the level.

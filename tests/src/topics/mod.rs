@@ -1,6 +1,7 @@
 //! What is compared, a file for each topic. A topic takes the call that it tries, so that the independent planner
 //! and the proved one go through the same cases.
 
+pub mod additions;
 pub mod ailments;
 pub mod calls;
 pub mod faults;
