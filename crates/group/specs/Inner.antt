@@ -2,4 +2,5 @@
 pub mod Edges
 pub mod Flanks
 pub mod Narrowing
+pub mod Searching
 pub mod Tabled

@@ -1,4 +1,5 @@
 -- The laws, a file for each topic.
+pub mod Additions
 pub mod Answers
 pub mod Bounds
 pub mod Edges

@@ -2,6 +2,7 @@ pub mod Sound
 pub mod Checks
 pub mod First
 pub mod Findings
+pub mod Additions
 pub mod Levelling
 pub mod Narrowing
 pub mod Answers

@@ -1,12 +1,11 @@
 // Levelling and narrowing one group on lists.
 use crate::checks::amounts_within;
 use crate::checks::check_lists;
+use crate::levels::find_level;
 use crate::plans::figures_at;
 use crate::plans::has_shares;
 use crate::ranges::narrow_running;
 use crate::shares::fill_plan;
-use crate::shares::level_at;
-use crate::shares::remainder_at;
 use model::Checked;
 use model::Figures;
 use model::GREATEST_TOTAL;
@@ -16,16 +15,19 @@ use model::Refusal;
 use model::Share;
 use model::Turn;
 ghost use mathlib.Core.Path.{_≡_};
-ghost use Prim.Native.Nat.{_≤_};
-ghost use lib.ListN.{length};
-ghost use Rattle.model.specs.Levels.{levelled};
-ghost use Rattle.model.specs.Running.{Marked, markedLows, markedHighs};
-ghost use Rattle.group.specs.Sound.{SoundRanges};
+ghost use Prim.Native.Nat.{_+_, _^_, _≤_, _<_};
+ghost use mathlib.Core.List.{_++_};
+ghost use lib.ListN.{length, drop};
+ghost use Rattle.model.specs.Levels.{level, levelled};
+ghost use Rattle.model.specs.Running.{Marked, markedFigures, markedLows, markedHighs};
+ghost use Rattle.group.specs.Additions.{mostAdditions};
+ghost use Rattle.group.specs.Sound.{SoundRanges, HasShares};
 ghost use Rattle.group.specs.Levelling.{levelledTo, levelling, planAfter};
 ghost use Rattle.group.specs.Narrowing.{narrowing, listAfter};
 
 pub mod checks;
 mod ends;
+mod levels;
 pub mod plans;
 pub mod ranges;
 pub mod running;
@@ -49,6 +51,39 @@ pub enum Narrowing {
     Refused(Refusal),
 }
 
+// The level of a group whose total is shared out, and the figures of its shares.
+struct SharedOut {
+    level: u64,
+    figures: Figures,
+}
+
+// Shares the total of a group out: the levelled shares go to the plan, over its first numbers, once the level is known.
+// T(v) is added up at most 22 times, and additions counts them.
+fn share_out(
+    lows: &[u64],
+    highs: &[u64],
+    marks: &[u64],
+    total: u64,
+    plan: &mut [u64],
+    additions: &mut u64,
+) -> SharedOut
+    requires { ⌜ HasShares (now lows) (now highs) total ⌝ }
+    requires { ⌜ Marked (now marks) (now lows) (now highs) ⌝ }
+    requires { ⌜ length (now lows) ≤ length (now plan) ⌝ }
+    requires { ⌜ now additions + mostAdditions < 2 ^ 64 ⌝ }
+    ensures { λ r. ⌜ r .level ≡ level (now (lows .entry)) (now (highs .entry)) total ⌝ }
+    ensures { λ r. ⌜ r .figures ≡ markedFigures (now (marks .entry)) total (levelled (now (lows .entry)) (now (highs .entry)) total) ⌝ }
+    ensures { λ _. ⌜ now (plan .exit) ≡ levelled (now (lows .entry)) (now (highs .entry)) total ++ drop (length (now (lows .entry))) (now (plan .entry)) ⌝ }
+    ensures { λ _. ⌜ now (additions .exit) ≤ now (additions .entry) + mostAdditions ⌝ }
+{
+    let found = find_level(lows, highs, total, additions);
+    let level = found.level;
+    let left = found.left;
+    let figures = figures_at(lows, highs, marks, level, left, total);
+    fill_plan(lows, highs, level, left, plan);
+    SharedOut { level, figures }
+}
+
 // Levels sound lists: the levelled shares go to the plan, over its first numbers.
 pub fn level_core(
     lows: &[u64],
@@ -69,16 +104,16 @@ pub fn level_core(
             place: 0,
         });
     }
-    let v = level_at(lows, highs, total);
+    let mut additions: u64 = 0;
+    let shared = share_out(lows, highs, marks, total, plan, &mut additions);
+    let v = shared.level;
+    let figures = shared.figures;
     let Checked::Valid(level) = Share::new(v) else {
         return Levelling::Refused(Refusal {
             number: 11,
             place: 0,
         });
     };
-    let left = remainder_at(lows, highs, total, v);
-    let figures = figures_at(lows, highs, marks, v, left, total);
-    fill_plan(lows, highs, v, left, plan);
     Levelling::Levelled { level, figures }
 }
 

@@ -1,5 +1,5 @@
 -- Laws of sound lists: how large their sums are, and the levelled shares in them. Assumes nothing.
-use Prim.Native.Nat.{ℕ, _*_, _≤_}
+use Prim.Native.Nat.{ℕ, _+_, _*_, _≤_}
 use mathlib.Core.Bool.{true}
 use borrow.Author.Tests.{leb-true, le-leb}
 use lib.Dec.{leb}
@@ -15,8 +15,9 @@ use Rattle.model.specs.Laws.Running.{running-ranges, running-few}
 use Rattle.model.specs.Laws.Tests.{both, both-left, both-right}
 use Rattle.model.specs.Laws.Lists.{ranges-length, within-length}
 use Rattle.model.specs.Laws.Levelled.{levelled-adds, levelled-within}
-use Rattle.model.specs.Laws.Level.{totalAt-cons, totalAt-least, totalAt-greatest, clamp-at-most}
+use Rattle.model.specs.Laws.Level.{totalAt-cons, totalAt-least, totalAt-greatest, clamp-at-most, level-holds}
 use Rattle.group.specs.Sound.{SoundRanges, HasShares}
+use Rattle.group.specs.Additions.{KnownLevel}
 
 -- what makes ranges sound
 pub sound : {lows highs : List ℕ} → Ranges lows highs → length lows ≤ mostUnits → SoundRanges lows highs
@@ -51,6 +52,19 @@ has-shares {lows} {highs} s total exist =
 -- and where they exist, the test finds them
 pub shares-had : {lows highs : List ℕ} {total : ℕ} → HasShares lows highs total → hasShares lows highs total ≡ true
 shares-had shared = both (le-leb _ _ (shared .low)) (le-leb _ _ (shared .high))
+
+-- T at the level is at most the total
+pub level-within : {lows highs : List ℕ} {total : ℕ} → HasShares lows highs total → totalAt lows highs (level lows highs total) ≤ total
+level-within {lows} {highs} {total} shared =
+    level-holds lows highs total (rw (totalAt-least (shared .sound .ranges)) (shared .low))
+
+-- the level with its remainder is known
+pub level-known : {lows highs : List ℕ} {total : ℕ} → HasShares lows highs total → (v left : ℕ)
+    → v ≡ level lows highs total → left ≡ remainder lows highs total → KnownLevel lows highs v left
+unfolding remainder
+level-known {lows} {highs} {total} shared v left is-level is-remainder =
+    let whole : totalAt lows highs v + left ≡ total = rw (is-remainder, is-level) (omega (arith, level-within shared)) in
+    rw whole is-level
 
 -- the shares at the level, with the copies left over handed out, are the levelled shares
 pub levelled-is : (lows highs : List ℕ) (total v left : ℕ) → v ≡ level lows highs total → left ≡ remainder lows highs total

@@ -9,14 +9,17 @@ use Rattle.model.specs.Levels.{totalAt, clamped}
 use Rattle.model.specs.Laws.Lists.{ranges-at}
 use Rattle.model.specs.Laws.Walk.{totalAt-walk}
 use Rattle.group.specs.Laws.Sound.{totalAt-small}
-use Rattle.group.proofs.shares.total_at.Statement.{statement}
-use Rattle.group.proofs.shares.total_at.Tie as tie
+use Rattle.group.proofs.levels.total_at.Statement.{statement}
+use Rattle.group.proofs.levels.total_at.Tie as tie
 
 abbrev Inv-loop : tie.InvT-loop
-Inv-loop lows highs v total₀ i₀ total i = (i ≤ length lows) × (total + totalAt (drop i lows) (drop i highs) v ≡ totalAt lows highs v)
+Inv-loop lows highs v additions total₀ i₀ total i = (i ≤ length lows) × (total + totalAt (drop i lows) (drop i highs) v ≡ totalAt lows highs v)
 
 abbrev μ-loop : tie.MeasureT-loop
-μ-loop lows highs v total₀ i₀ total i = length lows - i
+μ-loop lows highs v additions total₀ i₀ total i = length lows - i
+
+add-additions : tie.Need-add-additions Inv-loop μ-loop
+add-additions c = search needs
 
 loop-holds : tie.Need-loop-holds Inv-loop μ-loop
 loop-holds c = search needs
@@ -36,11 +39,11 @@ shared-slice-read-clamp-2 c = search needs
 clamp-requires : tie.Need-clamp-requires Inv-loop μ-loop
 clamp-requires c κs =
     let turn = c .before .before .before in
-    ranges-at (turn .before .before .before .pre .ranges) (turn .loop .i) (omega arith) .0
+    ranges-at (turn .before .before .before .before .pre .0 .ranges) (turn .loop .i) (omega arith) .0
 
 -- the function's start, seen from the loop's end
 abbrev start : tie.After-clamp Inv-loop μ-loop → tie.Start Inv-loop μ-loop
-start c = c .before .before .before .before .before .before .before
+start c = c .before .before .before .before .before .before .before .before
 
 loop-again : tie.Need-loop-again Inv-loop μ-loop
 loop-again c =
@@ -51,7 +54,7 @@ loop-again c =
     )
 
 add-total : tie.Need-add-total Inv-loop μ-loop
-add-total c = omega (arith, loop-again c .1, totalAt-small (start c .pre) (start c .args .v))
+add-total c = omega (arith, loop-again c .1, totalAt-small (start c .pre .0) (start c .args .v))
 
 add-i : tie.Need-add-i Inv-loop μ-loop
 add-i c = search needs
@@ -61,7 +64,7 @@ loop-less c = search needs
 
 returns : tie.Need-returns Inv-loop μ-loop
 unfolding totalAt clamped sum
-returns c = rw (← c .before .loop .inv .1, drop-of-length-le _ (c .loop-test .left)) (omega arith)
+returns c = (omega arith, rw (← c .before .loop .inv .1, drop-of-length-le _ (c .loop-test .left)) (omega arith))
 
 pub total-at-spec : {M : Type 1} → statement M
 total-at-spec =
@@ -69,6 +72,7 @@ total-at-spec =
     (tie.spec
     Inv-loop
     μ-loop
+    add-additions
     loop-holds
     mul-clamp
     shared-slice-read-clamp
