@@ -3,4 +3,5 @@ pub mod Edges
 pub mod Flanks
 pub mod Narrowing
 pub mod Searching
+pub mod Shared
 pub mod Tabled

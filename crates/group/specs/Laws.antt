@@ -12,6 +12,7 @@ pub mod Narrowing
 pub mod Packing
 pub mod Promises
 pub mod Reaching
+pub mod Shared
 pub mod Sound
 pub mod Summing
 pub mod Tabled

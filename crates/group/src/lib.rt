@@ -2,7 +2,7 @@
 use crate::checks::amounts_within;
 use crate::checks::check_lists;
 use crate::levels::find_level;
-use crate::plans::figures_at;
+use crate::plans::figures_of;
 use crate::plans::has_shares;
 use crate::ranges::narrow_running;
 use crate::shares::fill_plan;
@@ -78,9 +78,9 @@ fn share_out(
 {
     let found = find_level(lows, highs, total, additions);
     let level = found.level;
-    let left = found.left;
-    let figures = figures_at(lows, highs, marks, level, left, total);
-    fill_plan(lows, highs, level, left, plan);
+    fill_plan(lows, highs, level, found.left, plan);
+    let count = lows.len();
+    let figures = figures_of(&plan[..count], marks, total);
     SharedOut { level, figures }
 }
 

@@ -1,44 +1,28 @@
 // The figures of a group's levelled shares, and whether they are within its limits.
 use crate::running::if_running;
 use crate::running::running_count;
-use crate::shares::extra;
 use crate::shares::sum_of;
 use model::Deviation;
 use model::Figures;
 use model::Spread;
-use model::levels::clamp;
 use model::numbers::apart;
 ghost use mathlib.Core.Path.{_≡_};
-ghost use Rattle.model.specs.Shares.{sum};
-ghost use Rattle.model.specs.Levels.{topped};
 ghost use Rattle.model.specs.Plans.{hasShares};
-ghost use Rattle.model.specs.Running.{Marked, markedFigures};
+ghost use Rattle.model.specs.Running.{markedFigures};
 ghost use Rattle.group.specs.Sound.{SoundRanges};
+ghost use Rattle.group.specs.Inner.Shared.{SoundShares};
 
-// Both figures of the running members' shares at a level, with the copies left over handed out. A shut member's share is 0, so its square
-// adds nothing.
-pub fn figures_at(
-    lows: &[u64],
-    highs: &[u64],
-    marks: &[u64],
-    v: u64,
-    left: u64,
-    total: u64,
-) -> Figures
-    requires { ⌜ SoundRanges (now lows) (now highs) ⌝ }
-    requires { ⌜ Marked (now marks) (now lows) (now highs) ⌝ }
-    requires { ⌜ sum (topped (now lows) (now highs) v left) ≡ total ⌝ }
-    ensures { λ r. ⌜ r ≡ markedFigures (now (marks .entry)) total (topped (now (lows .entry)) (now (highs .entry)) v left) ⌝ }
+// Both figures of the running members' shares. A shut member's share is 0, so its square adds nothing.
+pub fn figures_of(shares: &[u64], marks: &[u64], total: u64) -> Figures
+    requires { ⌜ SoundShares (now marks) (now shares) total ⌝ }
+    ensures { λ r. ⌜ r ≡ markedFigures (now (marks .entry)) total (now (shares .entry)) ⌝ }
 {
     let count = running_count(marks) as u64;
-    let mut rest = left;
     let mut deviation: u64 = 0;
     let mut squares: u64 = 0;
     let mut i: usize = 0;
-    while i < lows.len() {
-        let more = extra(lows[i], highs[i], v, rest);
-        let share = clamp(lows[i], highs[i], v) + more;
-        rest -= more;
+    while i < shares.len() {
+        let share = shares[i];
         deviation += if_running(marks[i], apart(count * share, total));
         squares += share * share;
         i += 1;

@@ -14,7 +14,7 @@ use Rattle.model.specs.Running.{running}
 use Rattle.model.specs.Laws.Running.{running-ranges, running-few}
 use Rattle.model.specs.Laws.Tests.{both, both-left, both-right}
 use Rattle.model.specs.Laws.Lists.{ranges-length, within-length}
-use Rattle.model.specs.Laws.Levelled.{levelled-adds, levelled-within}
+use Rattle.model.specs.Laws.Levelled.{levelled-within}
 use Rattle.model.specs.Laws.Level.{totalAt-cons, totalAt-least, totalAt-greatest, clamp-at-most, level-holds}
 use Rattle.group.specs.Sound.{SoundRanges, HasShares}
 use Rattle.group.specs.Additions.{KnownLevel}
@@ -71,13 +71,6 @@ pub levelled-is : (lows highs : List ℕ) (total v left : ℕ) → v ≡ level l
     → topped lows highs v left ≡ levelled lows highs total
 unfolding levelled
 levelled-is lows highs total v left is-level is-remainder = rw (is-remainder, is-level)
-
--- and they add up to the total
-pub levelled-total : {lows highs : List ℕ} {total : ℕ} → HasShares lows highs total → (v left : ℕ)
-    → v ≡ level lows highs total → left ≡ remainder lows highs total → sum (topped lows highs v left) ≡ total
-levelled-total {lows} {highs} {total} shared v left is-level is-remainder =
-    rw (levelled-is lows highs total v left is-level is-remainder)
-    (levelled-adds (shared .sound .ranges) total (shared .low) (shared .high))
 
 -- there is one to each member
 pub levelled-length : {lows highs : List ℕ} → SoundRanges lows highs → (total : ℕ) → length (levelled lows highs total) ≡ length lows

@@ -7,7 +7,7 @@ use native.Mathlib.Numerals.{add-one}
 use native.Mathlib.Omega.{arith}
 use lib.ListN.{length, getD, set, take, drop, length-set, drop-of-length-le, take-append-drop}
 use lib.Seq.{getD-drop, drop-cons, drop-drop, drop-set-lt, take-suc-set}
-use Rattle.model.specs.Shares.{sum, sumOf}
+use Rattle.model.specs.Shares.{sum}
 use Rattle.model.specs.Levels.{clamp, growth, totalAt, topped}
 use Rattle.model.specs.Laws.Level.{totalAt-cons}
 
@@ -23,31 +23,11 @@ module _ (lows highs : List ℕ) (i : ℕ) (p : i < length lows) (q : i < length
   totalAt-walk = rw (add-one, drop-cons lows i 0 p, drop-cons highs i 0 q) (totalAt-cons _ _ _ _ v)
 
   -- the shares from i on, with the copies left over at i
-  pub topped-walk : (left : ℕ) → topped (drop i lows) (drop i highs) v left
+  topped-walk : (left : ℕ) → topped (drop i lows) (drop i highs) v left
       ≡ (clamp (getD lows i 0) (getD highs i 0) v + min left (growth (getD lows i 0) (getD highs i 0) v))
       ∷ topped (drop (i + 1) lows) (drop (i + 1) highs) v (left - min left (growth (getD lows i 0) (getD highs i 0) v))
   unfolding topped
   topped-walk left = rw (add-one, drop-cons lows i 0 p, drop-cons highs i 0 q)
-
--- the sum of f over the shares of the members before i is passed: with that over the shares of the others, rest copies still to
--- hand out, it is the sum over all
-abbrev pub SummedBefore : (ℕ → ℕ) → List ℕ → List ℕ → ℕ → ℕ → ℕ → ℕ → ℕ → Type 0
-SummedBefore f lows highs v left rest i passed =
-    passed + sumOf f (topped (drop i lows) (drop i highs) v rest) ≡ sumOf f (topped lows highs v left)
-
--- it grows by f of member i's share
-pub passed-step : (f : ℕ → ℕ) (lows highs : List ℕ) (i : ℕ) → i < length lows → i < length highs → (v left rest passed base more : ℕ)
-    → base ≡ clamp (getD lows i 0) (getD highs i 0) v → more ≡ min rest (growth (getD lows i 0) (getD highs i 0) v)
-    → SummedBefore f lows highs v left rest i passed → SummedBefore f lows highs v left (rest - more) (i + 1) (passed + f (base + more))
-unfolding sumOf
-passed-step f lows highs i p q v left rest passed base more is-clamp is-growth held =
-    rw (is-clamp, is-growth) (omega (arith, rw (topped-walk lows highs i p q v rest) at held))
-
--- once all members are passed it is the sum over all
-pub passed-all : (f : ℕ → ℕ) (lows highs : List ℕ) (v left rest i passed : ℕ) → length lows ≤ i
-    → SummedBefore f lows highs v left rest i passed → passed ≡ sumOf f (topped lows highs v left)
-unfolding sumOf topped
-passed-all f lows highs v left rest i passed h held = omega (arith, rw (drop-of-length-le lows h) at held)
 
 -- the shares of the members before i are written over the first numbers of the plan that was; the others are still to come
 pub record SharesWritten (lows highs : List ℕ) (v left rest i : ℕ) (was plan : List ℕ) : Type 0 where
