@@ -108,6 +108,7 @@ pub fn level_core(
     let shared = share_out(lows, highs, marks, total, plan, &mut additions);
     let v = shared.level;
     let figures = shared.figures;
+    // Every level is a share, so nothing is refused here.
     let Checked::Valid(level) = Share::new(v) else {
         return Levelling::Refused(Refusal {
             number: 11,
