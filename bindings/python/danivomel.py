@@ -180,7 +180,9 @@ def _table(table: Table) -> Any:
 
 def _text(text: Text) -> Any:
     """A text as bytes and their count. What a str holds and UTF-8 does not is handed over as well, and so refused."""
-    taken = text.encode("utf-8", "surrogatepass") if isinstance(text, str) else bytes(memoryview(text))
+    if not isinstance(text, (str, bytes, bytearray, memoryview)):
+        raise TypeError(f"a job text is a str or bytes, not {type(text).__name__}")
+    taken = text.encode("utf-8", "surrogatepass") if isinstance(text, str) else bytes(text)
     return taken, len(taken)
 
 

@@ -224,7 +224,7 @@ class Wrong(Calls):
             self.refused(2, 0, call, "\u00e9" * 32_769)
             for text in (None, 5, [PAIR], Path("a.job")):
                 with self.subTest(call=call.__name__, text=text):
-                    self.assertRaises(TypeError, call, text)
+                    self.assertRaisesRegex(TypeError, "^a job text is a str or bytes, not ", call, text)
         self.refused(10, 0, write, "", [])
         self.assertEqual(read(memoryview(bytearray(b"(shut)\n"))), Read([Range(0, 0)], 0))
 
