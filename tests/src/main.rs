@@ -3,7 +3,7 @@
 
 use danivomel_tests::calls::OnTexts;
 use danivomel_tests::check::Checks;
-use danivomel_tests::topics::{linked, program};
+use danivomel_tests::topics::{linked, program, sources};
 use danivomel_tests::{independent, topics};
 use std::path::Path;
 use std::process::ExitCode;
@@ -18,6 +18,7 @@ fn main() -> ExitCode {
     };
     println!("seed {seed}");
     let mut checks = Checks::new(seed);
+    sources::run(&mut checks);
     independent_planner(&mut checks);
     proved_planner(&mut checks);
     program::run(&mut checks);

@@ -18,6 +18,7 @@ pub mod read;
 pub mod report;
 pub mod settle;
 pub mod shut;
+pub mod sources;
 pub mod tables;
 pub mod write;
 
