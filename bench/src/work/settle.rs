@@ -75,7 +75,7 @@ pub fn run() -> (Table, Vec<(String, Times)>) {
 /// The jobs, settled.
 fn cases() -> Vec<Case> {
     let mut jobs = vec![];
-    for (groups, n) in [(8, 8), (16, 8), (32, 8), (64, 8), (16, 64), (16, 256)] {
+    for (groups, n) in [(8, 8), (16, 8), (32, 8), (64, 8), (16, 64), (16, 256), (64, 64)] {
         jobs.push((format!("{groups} × {n}"), job(groups, n)));
     }
     jobs.push(("slow, two groups of 2".to_string(), slow_job(1_000)));
