@@ -1,5 +1,6 @@
 /*
- * Danivomel: even shares of a total over the units of a group, by proved code. Link with libplanner.a.
+ * Danivomel: even shares of a total over the units of a group, by proved code. Link with libplanner.a, or
+ * with the shared library libdanivomel.so.
  *
  * danivomel_level gives one group's most even share and its figures (the stand level of the offer), danivomel_narrow
  * the range that each unit of one group may still be given under limits (press), and danivomel_read, danivomel_settle
@@ -75,6 +76,32 @@ typedef struct {
     uint64_t number;
     uint64_t place;
 } danivomel_refusal;
+
+/*
+ * What a refusal means, by its number, in the words of docs/USER-GUIDE.md, which also says what to do; 0 is "not refused".
+ * It stands in this header and not in the library, and never gives null.
+ */
+static inline const char *danivomel_words(uint64_t number) {
+    static const char *const words[] = {
+        "not refused",
+        "a list, table, scratch or buffer of a wrong length",
+        "the text is longer than 65,536 bytes",
+        "the line is not in the form",
+        "a number is beyond its range",
+        "a unit line after a group line",
+        "too many: the 257th unit, the 65th group, or more than 4,096 memberships",
+        "the low is above the high, or a shut unit's range is not 0 to 0",
+        "a unit number that is 0 or above the number of units",
+        "a unit twice in one group",
+        "no unit line at all",
+        "the group's total cannot be made: the lows add up to more, or the highs to less",
+        "the total can be made, but every way breaks a limit",
+        "the last line has no line feed at its end",
+        "the brackets of the line do not match",
+        "the line does not begin with (unit, (group or (shut",
+    };
+    return number < sizeof words / sizeof words[0] ? words[number] : "no refusal has this number";
+}
 
 /* The sum of |n * share - total| over the n running members; 0 where all are shut. Divided by n it is in copies. */
 typedef struct {

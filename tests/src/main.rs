@@ -3,7 +3,7 @@
 
 use danivomel_tests::calls::OnTexts;
 use danivomel_tests::check::Checks;
-use danivomel_tests::topics::{linked, program, sources};
+use danivomel_tests::topics::{command, installed, linked, program, sources, transcripts};
 use danivomel_tests::{independent, topics};
 use std::path::Path;
 use std::process::ExitCode;
@@ -22,13 +22,17 @@ fn main() -> ExitCode {
     independent_planner(&mut checks);
     proved_planner(&mut checks);
     program::run(&mut checks);
+    command::run(&mut checks);
+    transcripts::run(&mut checks);
     linked::run(&mut checks);
+    installed::run(&mut checks);
     checks.end()
 }
 
 /// The seed, 1 where none is given; or what is wrong with the call.
 fn seed_if_ready() -> Result<u64, String> {
-    let programs = [program::SETTLE.path, program::HAND_ON.path, linked::C_PROGRAM, linked::PRESS];
+    let programs =
+        [program::SETTLE.path, program::HAND_ON.path, command::PATH, linked::C_PROGRAM, linked::C_WORDS, linked::PRESS];
     let mut built = programs.into_iter().chain(linked::EVENINGS).chain(linked::HANDED_ON).chain(linked::SHUT);
     if let Some(missing) = built.find(|path| !Path::new(path).is_file()) {
         return Err(format!("{missing} is not there; tests/run builds it"));

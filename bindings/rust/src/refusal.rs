@@ -46,6 +46,32 @@ impl Refusal {
         }
     }
 
+    /// What to do about it, in words.
+    ///
+    /// ```
+    /// let refusal = danivomel::Refusal { number: 10, place: 0 };
+    /// assert_eq!(refusal.advice(), "the job is empty: is it the right file?");
+    /// ```
+    pub fn advice(&self) -> &'static str {
+        match self.number {
+            1 => "give lists of one length from 1 to 256, or a table, scratch or buffer that is long enough",
+            2 | 6 => "split the job",
+            3 => "look at its spaces, numbers and inner words",
+            4 => "shares go to 1,000,000, totals to 256,000,000, dev to 100,000,000,000, spread to 100,000,000,000,000,000",
+            5 => "put all unit lines first, (shut) too",
+            7 => "exchange the two numbers, or correct one",
+            8 => "count the unit lines: was one taken out?",
+            9 => "name it once",
+            10 => "the job is empty: is it the right file?",
+            11 => "change the total or a range; with several groups, settle without this one and add up what its units are left with",
+            12 => "settle with any for its limits: the figures on its line are those below which nothing works",
+            13 => "see that the line is whole, then press Enter after it",
+            14 => "count them from the left, 1 more for each ( and 1 less for each )",
+            15 => "look at its first word, and at what is ahead of it",
+            _ => "look at the user guide",
+        }
+    }
+
     /// What the place counts, where it is not 0. A number beyond its range and a range that is not allowed are found in a
     /// text and in lists, so that their place is a line or a unit, as the call had it.
     fn counted(&self) -> &'static str {

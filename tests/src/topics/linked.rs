@@ -7,6 +7,8 @@ use std::process::{Command, Output};
 
 /// The program of tests/c, which tests/run builds.
 pub const C_PROGRAM: &str = "tests/target/link";
+/// The header's words for refusals, likewise.
+pub const C_WORDS: &str = "tests/target/words";
 /// The press's group levelled and narrowed from C, likewise.
 pub const PRESS: &str = "tests/target/press";
 /// The evening's change from C and from Rust, likewise.
@@ -98,11 +100,22 @@ fn documentation(topic: &mut Topic) {
     topic.holds(&text, "all examples", run.status.success());
 }
 
-/// The package says a refusal in the words of the user guide's table, which has those that a job can cause.
+/// The package and the header say a refusal in the words of the user guide's table, which has those that a job can cause,
+/// and the package says what to do about it in the words of the same row.
 fn words(topic: &mut Topic) {
-    let guide = std::fs::read_to_string("docs/USER-GUIDE.md").expect("the guide is read");
+    let guide = std::fs::read_to_string("docs/USER-GUIDE.md").expect("the guide is read").replace('`', "");
+    let header = String::from_utf8_lossy(&output(C_WORDS, &[]).stdout).into_owned();
+    let header: Vec<&str> = header.lines().collect();
+    topic.same(&C_WORDS, "words for numbers that refuse nothing", (header.len(), header[0]), (18, "not refused"));
+    for number in 1..=17 {
+        let refusal = Refusal { number: if number == 17 { u64::MAX } else { number }, place: 0 };
+        topic.same(&number, "the header's words", header[number as usize], refusal.reason());
+    }
     for number in 2..=15 {
-        let row = format!("| {number} | {} |", Refusal { number, place: 0 }.reason());
-        topic.holds(&row, "in the user guide", guide.contains(&row));
+        let refusal = Refusal { number, place: 0 };
+        let start = format!("| {number} | {} | ", refusal.reason());
+        let row = guide.lines().find(|line| line.starts_with(&start)).unwrap_or_default();
+        topic.holds(&start, "in the user guide", !row.is_empty());
+        topic.holds(&(row, refusal.advice()), "what to do", row.contains(&format!(" | {}", refusal.advice())));
     }
 }

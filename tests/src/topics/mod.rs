@@ -4,8 +4,10 @@
 pub mod additions;
 pub mod ailments;
 pub mod calls;
+pub mod command;
 pub mod faults;
 pub mod handed;
+pub mod installed;
 pub mod judge;
 pub mod level;
 pub mod lines;
@@ -20,6 +22,7 @@ pub mod settle;
 pub mod shut;
 pub mod sources;
 pub mod tables;
+pub mod transcripts;
 pub mod write;
 
 use danivomel::Range;

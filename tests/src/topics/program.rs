@@ -19,7 +19,7 @@ pub struct Program {
     pub path: &'static str,
     name: &'static str,
     /// What the independent planner's writes for a text.
-    plain: fn(&[u8]) -> Vec<u8>,
+    pub plain: fn(&[u8]) -> Vec<u8>,
 }
 
 /// The program that writes reports.
@@ -52,7 +52,7 @@ fn written(program: &Program, text: &[u8]) -> Vec<u8> {
 }
 
 /// The jobs of the examples, by their paths.
-fn examples() -> Vec<(PathBuf, Vec<u8>)> {
+pub fn examples() -> Vec<(PathBuf, Vec<u8>)> {
     let mut jobs = vec![];
     for folder in ["examples", "examples/refused"] {
         for entry in std::fs::read_dir(folder).expect("the examples are there") {
@@ -99,7 +99,7 @@ fn too_long(topic: &mut Topic, program: &Program) {
 }
 
 /// A random job's text.
-fn random_text(topic: &mut Topic) -> Vec<u8> {
+pub fn random_text(topic: &mut Topic) -> Vec<u8> {
     let size = topic.random.one_of(&[TINY, MIDDLE]);
     print_job(&sound(&mut topic.random, size))
 }
@@ -161,7 +161,7 @@ fn fails(topic: &mut Topic, case: &str, program: &mut Command, start: &str) {
 }
 
 /// An input that gives these bytes and then fails: the far end of a socket closes with a byte unread, which resets it.
-fn cut_after(text: &[u8]) -> OwnedFd {
+pub fn cut_after(text: &[u8]) -> OwnedFd {
     let (mut near, mut far) = UnixStream::pair().expect("a pair of sockets");
     near.write_all(b"x").expect("a byte that stays unread");
     far.write_all(text).expect("the text is sent");
