@@ -78,7 +78,42 @@ fn random_jobs(topic: &mut Topic) {
             Err(refusal) => refusal_line(refusal),
         };
         answers(topic, &shown, &called(&["check"], &text), read.as_bytes());
+        in_table(topic, &shown, &called(&["table"], &text).stdout, &(SETTLE.plain)(&text));
     }
+}
+
+/// A table has every number of the report: each unit's range, and each group's level, figures and shares.
+fn in_table(topic: &mut Topic, case: &str, table: &[u8], report: &[u8]) {
+    let (table, report) = (String::from_utf8_lossy(table), String::from_utf8_lossy(report));
+    let (units, groups) = table.split_once("\n\ngroup ").unwrap_or((&table, ""));
+    let groups: Vec<&str> = groups.split("\n\ngroup ").collect();
+    for line in report.lines() {
+        let words: Vec<&str> = line.split(&['(', ')', ' '][..]).filter(|word| !word.is_empty()).collect();
+        let found = match words[..] {
+            ["unit", unit, low, high] => {
+                let range = units.lines().find(|line| line.split_whitespace().next() == Some(unit)).unwrap_or_default();
+                range.ends_with(&format!(" {low} to {high}")) || (range.ends_with(" shut") && (low, high) == ("0", "0"))
+            }
+            ["group", number, level, deviation, spread, "plan", ..] => {
+                let group = groups[number.parse::<usize>().expect("a number") - 1];
+                let has = |words: String| group.contains(&words);
+                let shares: Vec<&str> = shares_in(group);
+                has(format!(", level {level}\n"))
+                    && has(format!("  deviation {deviation}: "))
+                    && has(format!("  spread {spread}: "))
+                    && shares == words[6..]
+            }
+            _ => true,
+        };
+        topic.holds(&(case, line, &table), "in the table", found);
+    }
+}
+
+/// The shares in a group's part of a table.
+fn shares_in(group: &str) -> Vec<&str> {
+    let words: Vec<&str> =
+        group.lines().filter(|line| line.starts_with("  unit ")).flat_map(str::split_whitespace).collect();
+    words.chunks(3).map(|unit| if unit[2] == "shut" { "0" } else { unit[2] }).collect()
 }
 
 /// A group as words on the command line.
