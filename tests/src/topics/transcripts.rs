@@ -92,6 +92,14 @@ fn shown_calls(topic: &mut Topic) {
             NAMES.iter().all(|name| help.contains(&format!("danivomel {name}"))),
         );
     }
+    let guide = std::fs::read_to_string("docs/USER-GUIDE.md").expect("the guide is read");
+    for call in ["settle examples/refused/03-tab.job", "table examples/copies-works.job"] {
+        let run = called(&call.split_whitespace().collect::<Vec<_>>(), b"");
+        let written = String::from_utf8_lossy(&run.stdout) + String::from_utf8_lossy(&run.stderr);
+        let indented = |line: &str| if line.is_empty() { "\n".to_string() } else { format!("    {line}\n") };
+        let shown: String = written.lines().map(indented).collect();
+        topic.holds(&shown, "in the guide", guide.contains(&shown));
+    }
     topic.same(&"--version", "printed", called(&["--version"], b"").stdout, b"danivomel 0.1.0\n".to_vec());
 }
 
