@@ -1,4 +1,3 @@
-pub mod Sound
 pub mod Checks
 pub mod First
 pub mod Findings

@@ -6,7 +6,7 @@ ghost use Prim.Native.Nat.{suc, _+_, _-_, _^_, _≤_, _<_};
 ghost use lib.Dec.{leb};
 ghost use Rattle.model.specs.Levels.{totalAt, level, remainder};
 ghost use Rattle.group.specs.Additions.{mostAdditions, ByHalving};
-ghost use Rattle.group.specs.Sound.{SoundRanges, HasShares};
+ghost use Rattle.model.specs.Sound.{SoundRanges, HasShares};
 ghost use Rattle.group.specs.Inner.Searching.{LevelBetween};
 
 // The level, and the copies left over there.

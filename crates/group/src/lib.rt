@@ -3,8 +3,6 @@ use crate::checks::amounts_within;
 use crate::checks::check_lists;
 use crate::levels::find_level;
 use crate::plans::figures_of;
-use crate::plans::has_shares;
-use crate::ranges::narrow_running;
 use crate::shares::fill_plan;
 use model::Checked;
 use model::Figures;
@@ -14,6 +12,8 @@ use model::Question;
 use model::Refusal;
 use model::Share;
 use model::Turn;
+use model::shares::has_shares;
+use narrow::ranges::narrow_running;
 ghost use mathlib.Core.Path.{_≡_};
 ghost use Prim.Native.Nat.{_+_, _^_, _≤_, _<_};
 ghost use mathlib.Core.List.{_++_};
@@ -21,16 +21,13 @@ ghost use lib.ListN.{length, drop};
 ghost use Rattle.model.specs.Levels.{level, levelled};
 ghost use Rattle.model.specs.Running.{Marked, markedFigures, markedLows, markedHighs};
 ghost use Rattle.group.specs.Additions.{mostAdditions};
-ghost use Rattle.group.specs.Sound.{SoundRanges, HasShares};
+ghost use Rattle.model.specs.Sound.{SoundRanges, HasShares};
 ghost use Rattle.group.specs.Levelling.{levelledTo, levelling, planAfter};
 ghost use Rattle.group.specs.Narrowing.{narrowing, listAfter};
 
 pub mod checks;
-mod ends;
 mod levels;
 pub mod plans;
-pub mod ranges;
-pub mod running;
 pub mod shares;
 
 // What the checks on a group's lists answer.

@@ -1,15 +1,12 @@
-// The figures of a group's levelled shares, and whether they are within its limits.
-use crate::running::if_running;
-use crate::running::running_count;
-use crate::shares::sum_of;
+// The figures of a group's shares.
 use model::Deviation;
 use model::Figures;
 use model::Spread;
 use model::numbers::apart;
+use model::running::if_running;
+use model::running::running_count;
 ghost use mathlib.Core.Path.{_≡_};
-ghost use Rattle.model.specs.Plans.{hasShares};
 ghost use Rattle.model.specs.Running.{markedFigures};
-ghost use Rattle.group.specs.Sound.{SoundRanges};
 ghost use Rattle.group.specs.Inner.Shared.{SoundShares};
 
 // Both figures of the running members' shares. A shut member's share is 0, so its square adds nothing.
@@ -31,15 +28,4 @@ pub fn figures_of(shares: &[u64], marks: &[u64], total: u64) -> Figures
         deviation: Deviation(deviation),
         spread: Spread::from_squares(count, squares, total),
     }
-}
-
-// Whether shares with the total exist.
-pub fn has_shares(lows: &[u64], highs: &[u64], total: u64) -> bool
-    requires { ⌜ SoundRanges (now lows) (now highs) ⌝ }
-    ensures { λ r. ⌜ r ≡ hasShares (now (lows .entry)) (now (highs .entry)) total ⌝ }
-{
-    if total < sum_of(lows) {
-        return false;
-    }
-    total <= sum_of(highs)
 }

@@ -22,4 +22,7 @@ pub mod Running
 pub mod Marked
 pub mod Shut
 pub mod ShutNarrowing
+pub mod Packing
+pub mod Sound
+pub mod Bounds
 pub mod Known

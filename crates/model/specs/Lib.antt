@@ -1,5 +1,6 @@
 pub mod Refusals
 pub mod Shares
+pub mod Sound
 pub mod Figures
 pub mod Levels
 pub mod Plans

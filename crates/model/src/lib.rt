@@ -7,6 +7,8 @@ ghost use Rattle.model.specs.Shares.{checked};
 pub mod levels;
 pub mod lists;
 pub mod numbers;
+pub mod running;
+pub mod shares;
 
 // A job has at most so many units, and a group as many members.
 pub const MOST_UNITS: usize = 256;

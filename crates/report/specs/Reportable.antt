@@ -7,7 +7,7 @@ use Rattle.model.specs.Shares.{greatestTotal, mostUnits}
 use Rattle.model.specs.Groups.{Group}
 use Rattle.model.specs.Running.{Marked}
 use Rattle.works.specs.Resting.{marksOf}
-use Rattle.group.specs.Sound.{HasShares}
+use Rattle.model.specs.Sound.{HasShares}
 use Rattle.groups.specs.Memberships.{memberships}
 use Rattle.job.specs.Job.{mostGroups, mostMemberships}
 use Rattle.works.specs.Tables.{Table, Valid, Named, units, lowsOf, highsOf}

@@ -4,7 +4,7 @@ ghost use Prim.Native.Nat.{_+_, _≤_};
 ghost use mathlib.Core.List.{_++_};
 ghost use mathlib.Core.Path.{_≡_};
 ghost use lib.ListN.{length, take, drop};
-ghost use Rattle.group.specs.Sound.{SoundRanges};
+ghost use Rattle.model.specs.Sound.{SoundRanges};
 ghost use Rattle.works.specs.Tables.{widths};
 
 // The sum of high − low.

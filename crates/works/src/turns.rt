@@ -1,11 +1,11 @@
 // One group's turn.
 use crate::members::gather_running;
 use crate::members::scatter_running;
-use group::ranges::narrow_core;
 use groups::MARKS;
 use groups::Stored;
 use model::Question;
 use model::Turn;
+use narrow::ranges::narrow_core;
 ghost use mathlib.Core.Path.{_≡_};
 ghost use lib.ListN.{length};
 ghost use Rattle.groups.specs.Inner.Flat.{groupIn, marksIn};

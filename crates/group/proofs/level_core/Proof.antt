@@ -9,8 +9,8 @@ use Rattle.model.specs.Plans.{hasShares}
 use Rattle.model.specs.Laws.Level.{level-share}
 use Rattle.model.specs.Laws.Shares.{share-valid}
 use Rattle.model.specs.declared.Checked.the-variants.{Valid}
-use Rattle.group.specs.Sound.{HasShares}
-use Rattle.group.specs.Laws.Sound.{has-shares, levelled-length}
+use Rattle.model.specs.Sound.{HasShares}
+use Rattle.model.specs.Laws.Sound.{has-shares, levelled-length}
 use Rattle.group.specs.Levelling.{levelledTo}
 use Rattle.group.specs.Laws.Levelling.{levelled-answer}
 use Rattle.group.proofs.level_core.Statement.{statement}

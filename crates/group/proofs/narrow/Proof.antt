@@ -5,7 +5,8 @@ use lib.ListN.{length}
 use Rattle.group.specs.Checks.{amountsWithin, checkLists}
 use Rattle.group.specs.Laws.Findings.{check-exactly, passed-sound, passed-marked}
 use Rattle.group.specs.Narrowing.{narrowing}
-use Rattle.group.specs.Laws.Narrowing.{after-narrowed, after-refused, answer-narrowed, answer-refused}
+use Rattle.group.specs.Laws.Narrowing.{answer-narrowed, answer-refused}
+use Rattle.narrow.specs.Laws.Turns.{after-narrowed, after-refused}
 use Rattle.group.specs.declared.Check.the-variants.{Passed}
 use Rattle.group.proofs.narrow.Statement.{statement}
 use Rattle.group.proofs.narrow.Tie as tie

@@ -9,7 +9,8 @@ use Rattle.model.specs.Levels.{levelled}
 use Rattle.model.specs.Laws.Levelled.{levelled-within, levelled-adds}
 use Rattle.group.specs.Inner.Shared.{SoundShares}
 use Rattle.group.specs.Laws.Shared.{shared-out, plan-front}
-use Rattle.group.specs.Laws.Sound.{level-known, levelled-is, levelled-length}
+use Rattle.model.specs.Laws.Sound.{levelled-is, levelled-length}
+use Rattle.group.specs.Laws.Additions.{level-known}
 use Rattle.group.proofs.share_out.Statement.{statement}
 use Rattle.group.proofs.share_out.Tie as tie
 

@@ -3,7 +3,7 @@ use Prim.Native.Nat.{ℕ, suc, _≤_, _<_}
 use mathlib.Core.List.{List}
 use Rattle.model.specs.Shares.{greatestShare}
 use Rattle.model.specs.Levels.{totalAt}
-use Rattle.group.specs.Sound.{SoundRanges}
+use Rattle.model.specs.Sound.{SoundRanges}
 
 -- the level of sound ranges is from v to below top
 pub record LevelBetween (lows highs : List ℕ) (total v top : ℕ) : Type 0 where

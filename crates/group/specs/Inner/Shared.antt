@@ -4,7 +4,7 @@ use mathlib.Core.List.{List}
 use mathlib.Core.Path.{_≡_}
 use Rattle.model.specs.Shares.{sum}
 use Rattle.model.specs.Running.{Marked}
-use Rattle.group.specs.Sound.{SoundRanges}
+use Rattle.model.specs.Sound.{SoundRanges}
 
 -- shares with the total, those of shut members 0: each is sound as a range of one value
 pub record SoundShares (marks shares : List ℕ) (total : ℕ) : Type 0 where

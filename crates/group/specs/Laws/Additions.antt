@@ -1,9 +1,13 @@
--- Laws of the count of additions. Assumes nothing.
+-- Laws of the count of additions, and of a level that is known. Assumes nothing.
 use Prim.Native.Nat.{ℕ, zero, suc, _+_, _*_, _^_, _≤_, _<_}
+use mathlib.Core.List.{List}
 use mathlib.Core.Path.{_≡_}
 use native.Mathlib.Omega.{arith}
 use Rattle.model.specs.Shares.{greatestShare}
-use Rattle.group.specs.Additions.{mostAdditions, ByHalving}
+use Rattle.model.specs.Levels.{totalAt, level, remainder}
+use Rattle.model.specs.Sound.{HasShares}
+use Rattle.model.specs.Laws.Sound.{level-within}
+use Rattle.group.specs.Additions.{mostAdditions, ByHalving, KnownLevel}
 
 -- where nothing more is added up, any number of levels allows it
 pub halved-none : (levels count : ℕ) → ByHalving levels count count
@@ -26,3 +30,11 @@ few-levels = omega arith
 -- and those of item 7 of 02, from −1,000,000 on
 pub few-signed-levels : suc (2 * greatestShare) ≤ 2 ^ 21
 few-signed-levels = omega arith
+
+-- the level with its remainder is known
+pub level-known : {lows highs : List ℕ} {total : ℕ} → HasShares lows highs total → (v left : ℕ)
+    → v ≡ level lows highs total → left ≡ remainder lows highs total → KnownLevel lows highs v left
+unfolding remainder
+level-known {lows} {highs} {total} shared v left is-level is-remainder =
+    let whole : totalAt lows highs v + left ≡ total = rw (is-remainder, is-level) (omega (arith, level-within shared)) in
+    rw whole is-level

@@ -14,8 +14,8 @@ use Rattle.model.specs.Shares.{Ranges, greatestShare, mostUnits}
 use Rattle.model.specs.Laws.Tests.{both, both-left, both-right, clash, refuted}
 use Rattle.model.specs.declared.Refusal.{Refusal}
 use Rattle.group.specs.Checks.{areShares, unitWithin, unitOrdered, firstBeyond, firstCrossed, sized, refuseIf, checkLists}
-use Rattle.group.specs.Sound.{SoundRanges}
-use Rattle.group.specs.Laws.Sound.{sound}
+use Rattle.model.specs.Sound.{SoundRanges}
+use Rattle.model.specs.Laws.Sound.{sound}
 use Rattle.group.specs.declared.Check.{Check}
 use Rattle.group.specs.declared.Check.the-variants.{Passed, Failed}
 use Rattle.group.specs.First.{EachUnit}

@@ -19,7 +19,7 @@ use Rattle.model.specs.declared.Refusal.{Refusal}
 use Rattle.model.specs.declared.Share.{Share}
 use Rattle.group.specs.Levelling.{levelling}
 use Rattle.group.specs.Narrowing.{narrowing}
-use Rattle.group.specs.Laws.Sound.{levelled-length}
+use Rattle.model.specs.Laws.Sound.{levelled-length}
 use Rattle.group.specs.declared.Levelling.the-variants as level
 use Rattle.group.specs.declared.Narrowing.the-variants as narrow
 use Rattle.group.specs.Laws.Findings.{passed-sound, passed-marked}

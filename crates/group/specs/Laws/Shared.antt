@@ -8,9 +8,9 @@ use lib.Seq.{take-append-seam}
 use Rattle.model.specs.Shares.{Ranges, Within, sum}
 use Rattle.model.specs.Running.{Marked}
 use Rattle.model.specs.Laws.Lists.{within-length}
-use Rattle.group.specs.Sound.{SoundRanges}
+use Rattle.model.specs.Sound.{SoundRanges}
 use Rattle.group.specs.Inner.Shared.{SoundShares}
-use Rattle.group.specs.Laws.Sound.{sound}
+use Rattle.model.specs.Laws.Sound.{sound}
 
 -- each is a range of one value
 own-ranges : {lows highs xs : List ℕ} → Ranges lows highs → Within lows highs xs → Ranges xs xs

@@ -13,7 +13,7 @@ use Rattle.model.specs.Levels.{level, levelled}
 use Rattle.model.specs.Running.{Marked, markedFigures}
 use Rattle.works.specs.Resting.{marksOf}
 use Rattle.works.specs.Tables.{Table, Named, tableOf, units, gather, lowsOf, highsOf}
-use Rattle.group.specs.Sound.{SoundRanges}
+use Rattle.model.specs.Sound.{SoundRanges}
 use Rattle.works.specs.declared.Settling.{Settling}
 use Rattle.works.specs.declared.Settling.the-variants.{Settled}
 use Rattle.report.specs.Lines.{groupLine}

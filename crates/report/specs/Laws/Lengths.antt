@@ -16,9 +16,9 @@ use Rattle.model.specs.Levels.{level, levelled}
 use Rattle.model.specs.Shares.{Ranges, Within, greatestTotal, mostUnits}
 use Rattle.model.specs.declared.Figures.{Figures}
 use Rattle.text.specs.Words.{bytes}
-use Rattle.group.specs.Laws.Bounds.{share-small, squares-small, deviation-small}
-use Rattle.group.specs.Sound.{SoundRanges, HasShares}
-use Rattle.group.specs.Laws.Sound.{running-sound, levelled-length, highs-small}
+use Rattle.model.specs.Laws.Bounds.{share-small, squares-small, deviation-small}
+use Rattle.model.specs.Sound.{SoundRanges, HasShares}
+use Rattle.model.specs.Laws.Sound.{running-sound, levelled-length, highs-small}
 use Rattle.groups.specs.Memberships.{memberships}
 use Rattle.job.specs.Job.{mostBytes}
 use Rattle.works.specs.Laws.Members.{gather-length}

@@ -7,7 +7,7 @@ use native.Mathlib.Omega.{arith}
 use borrow.Author.Tests.{le-leb}
 use lib.ListN.{length, take, drop, length-drop}
 use lib.Seq.{take-at, length-take-le}
-use Rattle.group.specs.Laws.Sound.{levelled-length}
+use Rattle.model.specs.Laws.Sound.{levelled-length}
 use Rattle.group.specs.Levelling.{levelledTo, planAfter}
 use Rattle.model.specs.Shares.{mostUnits}
 use Rattle.group.specs.declared.Levelling.{Levelling}

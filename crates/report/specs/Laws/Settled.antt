@@ -5,8 +5,8 @@ use mathlib.Core.Path.{_≡_, refl, sym, ap, _∙_}
 use native.Mathlib.Omega.{arith}
 use lib.ListN.{length, take, drop}
 use lib.Seq.{take-at, length-take-le}
-use Rattle.group.specs.Sound as one
-use Rattle.group.specs.Laws.Sound as laws
+use Rattle.model.specs.Sound as one
+use Rattle.model.specs.Laws.Sound as laws
 use Rattle.group.specs.declared.Check.{Check}
 use Rattle.group.specs.declared.Check.the-variants.{Passed, Failed}
 use Rattle.groups.specs.Memberships.{memberships, SoundMembers}

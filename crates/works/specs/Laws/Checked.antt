@@ -11,7 +11,7 @@ use lib.Seq.{length-take-le}
 use Rattle.group.specs.Checks.{checkLists}
 use Rattle.group.specs.Findings.{Finding, SizedLists}
 use Rattle.group.specs.Laws.Findings.{check-exactly, passed-sound, passed-marked as lists-marked, refuse-passed}
-use Rattle.group.specs.Sound as one
+use Rattle.model.specs.Sound as one
 use Rattle.group.specs.declared.Check.the-variants.{Passed, Failed}
 use Rattle.model.specs.Laws.Running.{marked-length}
 use Rattle.model.specs.Laws.Tests.{both, both-left, both-right}

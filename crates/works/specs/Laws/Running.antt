@@ -9,8 +9,8 @@ use native.Mathlib.Omega.{arith, by-contra}
 use lib.ListN.{length, drop}
 use Rattle.model.specs.Shares.{greatestTotal, mostUnits}
 use Rattle.model.specs.Laws.Tests.{refuted}
-use Rattle.group.specs.Sound as one
-use Rattle.group.specs.Laws.Sound as laws
+use Rattle.model.specs.Sound as one
+use Rattle.model.specs.Laws.Sound as laws
 use Rattle.groups.specs.Inner.Flat.{groupsIn, marksFrom, marksIn, storedAt, groupIn}
 use Rattle.groups.specs.Laws.Walk.{Walk, Next, walk-start, walk-end, walk-next}
 use Rattle.groups.specs.Memberships.{SoundMembers}

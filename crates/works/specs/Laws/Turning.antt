@@ -4,9 +4,9 @@ use mathlib.Core.List.{List, _++_}
 use mathlib.Core.Path.{_≡_, ap, _∙_}
 use native.Mathlib.Omega.{arith}
 use lib.ListN.{length, take}
-use Rattle.group.specs.Inner.Narrowing.{Turned}
-use Rattle.group.specs.Sound as one
-use Rattle.group.specs.Laws.Sound as laws
+use Rattle.narrow.specs.Inner.Turns.{Turned}
+use Rattle.model.specs.Sound as one
+use Rattle.model.specs.Laws.Sound as laws
 use Rattle.groups.specs.Memberships.{size}
 use Rattle.model.specs.Groups.{Group}
 use Rattle.model.specs.Laws.Lists.{ranges-length}

@@ -5,7 +5,7 @@ use Prim.Native.Nat.{ℕ, _≤_}
 use Rattle.model.specs.Levels.{totalAt, level, remainder}
 use Rattle.model.specs.Laws.Level.{totalAt-least}
 use Rattle.group.specs.Laws.Additions.{most-additions, few-levels}
-use Rattle.group.specs.Laws.Sound.{level-within}
+use Rattle.model.specs.Laws.Sound.{level-within}
 use Rattle.group.proofs.levels.find_level.Statement.{statement}
 use Rattle.group.proofs.levels.find_level.Tie as tie
 

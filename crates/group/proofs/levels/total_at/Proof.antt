@@ -8,7 +8,7 @@ use Rattle.model.specs.Shares.{sum}
 use Rattle.model.specs.Levels.{totalAt, clamped}
 use Rattle.model.specs.Laws.Lists.{ranges-at}
 use Rattle.model.specs.Laws.Walk.{totalAt-walk}
-use Rattle.group.specs.Laws.Sound.{totalAt-small}
+use Rattle.model.specs.Laws.Sound.{totalAt-small}
 use Rattle.group.proofs.levels.total_at.Statement.{statement}
 use Rattle.group.proofs.levels.total_at.Tie as tie
 

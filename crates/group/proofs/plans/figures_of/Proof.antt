@@ -11,11 +11,11 @@ use Rattle.model.specs.Shares.{pick, sum, Within, greatestShare, sumOf, greates
 use Rattle.model.specs.Running.{runs, running}
 use Rattle.model.specs.Laws.Running.{marked-length, running-length, running-few, running-within, running-sumOf, running-sum}
 use Rattle.model.specs.Figures.{apart, deviation, spread}
-use Rattle.group.specs.Sound.{SoundRanges}
-use Rattle.group.specs.Laws.Sound.{running-sound}
+use Rattle.model.specs.Sound.{SoundRanges}
+use Rattle.model.specs.Laws.Sound.{running-sound}
 use Rattle.group.specs.Laws.Shared.{own-within}
 use Rattle.group.specs.Laws.Summing.{Summed, SummedRunning, summed-step, running-step, summed-all, summed-running}
-use Rattle.group.specs.Laws.Bounds.{share-small, sum-small, squares-small, deviation-small}
+use Rattle.model.specs.Laws.Bounds.{share-small, sum-small, squares-small, deviation-small}
 use Rattle.group.proofs.plans.figures_of.Statement.{statement}
 use Rattle.group.proofs.plans.figures_of.Tie as tie
 

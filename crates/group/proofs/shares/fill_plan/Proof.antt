@@ -5,7 +5,7 @@ use Prim.Native.Nat.{_-_, _≤_}
 use lib.ListN.{length}
 use Rattle.model.specs.Laws.Lists.{ranges-at}
 use Rattle.model.specs.Laws.Walk.{SharesWritten, written-none, written-step, written-all}
-use Rattle.group.specs.Laws.Bounds.{share-at-small}
+use Rattle.model.specs.Laws.Bounds.{share-at-small}
 use Rattle.group.proofs.shares.fill_plan.Statement.{statement}
 use Rattle.group.proofs.shares.fill_plan.Tie as tie
 

@@ -4,7 +4,7 @@ use native.Mathlib.Omega.{arith}
 use mathlib.Core.Path.{_≡_}
 use Prim.Native.Nat.{_+_, _-_, _≤_}
 use lib.ListN.{length, drop, drop-of-length-le}
-use Rattle.group.specs.Laws.Sound.{highs-small}
+use Rattle.model.specs.Laws.Sound.{highs-small}
 use Rattle.model.specs.Laws.Lists.{ranges-at}
 use Rattle.works.specs.Tables.{widths}
 use Rattle.works.specs.Laws.Inside.{widths-sums, widths-walk}

@@ -1,0 +1,229 @@
+-- 12 without a plan; else the ends of the members before i are written, and the levelled shares of the others are still to come. Assumes nothing.
+use borrow.Author.Needs.{needs}
+use borrow.Author.Tests.{not-true, not-false}
+use native.Mathlib.Omega.{arith}
+use mathlib.Core.List.{List}
+use mathlib.Core.Path.{_≡_, refl, sym, _∙_}
+use Prim.Native.Nat.{ℕ, _+_, _-_, _*_, _≤_}
+use lib.ListN.{length, getD}
+use Rattle.model.specs.Levels.{topped}
+use Rattle.model.specs.Plans.{turnOf, narrowedLows, narrowedHighs}
+use Rattle.model.specs.Laws.Lists.{ranges-at}
+use Rattle.model.specs.Laws.Narrowing.{narrowedLows-length, narrowedHighs-length, narrowedLows-at, narrowedHighs-at}
+use Rattle.model.specs.Laws.Turns.{found-turn}
+use Rattle.model.specs.Laws.Writing.{Filled, filled-none, filled-more, filled-all}
+use Rattle.model.specs.Laws.Walk.{Ahead, ahead-share, ahead-step}
+use Rattle.probe.specs.Inner.Probes.{InReach}
+use Rattle.probe.specs.Laws.Reaching.{shares-reach}
+use Rattle.model.specs.Laws.Bounds.{share-at-small}
+use Rattle.model.specs.Laws.Sound.{shares-had}
+use Rattle.narrow.specs.Inner.Tabled.{HasPlan}
+use Rattle.narrow.specs.Laws.Edges.{Planned}
+use Rattle.narrow.specs.Laws.Ends.{levelled-planned, to-low, to-high, low-reached, high-reached}
+use Rattle.narrow.proofs.ranges.narrow_on.Statement.{statement}
+use Rattle.narrow.proofs.ranges.narrow_on.Tie as tie
+
+abbrev Inv-loop : tie.InvT-loop
+Inv-loop lows highs table question starts₀ stops₀ row v left₀ i₀ starts stops left i =
+    (i ≤ length lows)
+    × Filled (narrowedLows lows highs (question .total) (question .limits)) starts₀ starts i
+    × Filled (narrowedHighs lows highs (question .total) (question .limits)) stops₀ stops i
+    × Ahead lows highs v left₀ left i
+
+abbrev μ-loop : tie.MeasureT-loop
+μ-loop lows highs table question starts₀ stops₀ row v left₀ i₀ starts stops left i = length lows - i
+
+-- the narrowed lists are as long as the group
+module _ (s : tie.Start Inv-loop μ-loop) where
+  many-lows : length (narrowedLows (s .args .lows .now) (s .args .highs .now) (s .args .question .total) (s .args .question .limits)) ≡ length (s .args .lows .now)
+  many-lows = narrowedLows-length _ _ _ _
+
+  many-highs : length (narrowedHighs (s .args .lows .now) (s .args .highs .now) (s .args .question .total) (s .args .question .limits)) ≡ length (s .args .lows .now)
+  many-highs = narrowedHighs-length _ _ _ _
+
+-- the group's own total is in reach
+in-reach : (s : tie.Start Inv-loop μ-loop) → InReach (s .args .table .now) (2 * length (s .args .lows .now)) 0 0 0 (s .args .question .total)
+in-reach s = shares-reach (s .pre .1 .0 .sound) (s .pre .1 .0 .held) (s .pre .0 .low) (s .pre .0 .high)
+
+level-on-requires : tie.Need-level-on-requires Inv-loop μ-loop
+level-on-requires c κs =
+    let s = c .before .before .before .before .before in
+    (s .pre .1 .0 .sound, (s .pre .1 .0 .held, in-reach s))
+
+-- the start, seen from the level
+abbrev start : tie.After-level-on Inv-loop μ-loop → tie.Start Inv-loop μ-loop
+start c = c .before .before .before .before .before .before
+
+has-plan-requires : tie.Need-has-plan-requires Inv-loop μ-loop
+has-plan-requires c κs =
+    let s = start c in
+    (s .pre .1 .0 .sound, (s .pre .1 .0 .held, (in-reach s, c .level-on .ensures .found)))
+
+returns : tie.Need-returns Inv-loop μ-loop
+unfolding turnOf
+returns c =
+    let s = start (c .before .before) in
+    (rw (shares-had (s .pre .0), ← c .before .has-plan .ensures, not-true (c .before .has-plan .result) (c .if1 .taken)), (refl, refl))
+
+-- the group has a plan
+module _ (c : tie.Else1 Inv-loop μ-loop) where
+  abbrev begun : tie.Start Inv-loop μ-loop
+  begun = start (c .before .before)
+
+  has-one : HasPlan (begun .args .lows .now) (begun .args .highs .now) (begun .args .question .total) (begun .args .question .limits)
+  has-one = record {
+    sound = begun .pre .0 .sound;
+    found = rw (← c .before .has-plan .ensures) (not-false (c .before .has-plan .result) (c .if1 .left));
+  }
+
+loop-holds : tie.Need-loop-holds Inv-loop μ-loop
+loop-holds c = (search needs, filled-none _ _, filled-none _ _, refl)
+
+mul-low : tie.Need-mul-low Inv-loop μ-loop
+mul-low c = search needs
+
+shared-slice-read-low : tie.Need-shared-slice-read-low Inv-loop μ-loop
+shared-slice-read-low c = search needs
+
+mul-high : tie.Need-mul-high Inv-loop μ-loop
+mul-high c = search needs
+
+shared-slice-read-high : tie.Need-shared-slice-read-high Inv-loop μ-loop
+shared-slice-read-high c = search needs
+
+extra-requires : tie.Need-extra-requires Inv-loop μ-loop
+extra-requires c κs = search needs
+
+clamp-requires : tie.Need-clamp-requires Inv-loop μ-loop
+clamp-requires c κs =
+    let turn = c .before .before .before .before in
+    ranges-at (begun (turn .before) .pre .0 .sound .ranges) (turn .loop .member) (omega arith) .0
+
+-- the loop's turn and the member's share, seen from the share on
+module _ (c : tie.After-clamp Inv-loop μ-loop) where
+  abbrev turn : tie.At-loop Inv-loop μ-loop
+  turn = c .before .before .before .before .before
+
+  abbrev from : tie.Start Inv-loop μ-loop
+  from = begun (turn .before)
+
+  abbrev lows : List ℕ
+  lows = from .args .lows .now
+
+  abbrev highs : List ℕ
+  highs = from .args .highs .now
+
+  abbrev v : ℕ
+  v = turn .before .before .before .level-on .result .level
+
+  abbrev left : ℕ
+  left = turn .before .before .before .level-on .result .over
+
+  abbrev i : ℕ
+  i = turn .loop .member
+
+  abbrev more : ℕ
+  more = c .before .extra .result
+
+  abbrev share : ℕ
+  share = c .clamp .result + more
+
+  -- the share is the one at the level, which some plan gives the member
+  is-share : share ≡ getD (topped lows highs v left) i 0
+  is-share = sym (ahead-share lows highs i (omega arith) (omega arith) v left (turn .loop .left) (c .clamp .result) more (c .clamp .ensures) (c .before .extra .ensures) (turn .loop .inv .3))
+
+  planned : Planned lows highs (from .args .question .total) (from .args .question .limits) i share
+  planned = rw is-share (levelled-planned (has-one (turn .before)) (turn .before .before .before .level-on .ensures .reached) i (omega arith))
+
+  next : Ahead lows highs v left (turn .loop .left - more) (i + 1)
+  next = ahead-step lows highs i (omega arith) (omega arith) v left (turn .loop .left) (c .clamp .result) more (c .clamp .ensures) (c .before .extra .ensures) (turn .loop .inv .3)
+
+add-value : tie.Need-add-value Inv-loop μ-loop
+add-value c = omega (arith, share-at-small (from c .pre .0 .sound) (i c) (v c) (turn c .loop .left) (c .clamp .result) (more c) (omega arith) (c .clamp .ensures) (c .before .extra .ensures))
+
+sub-left : tie.Need-sub-left Inv-loop μ-loop
+sub-left c = search needs
+
+farthest-taken-requires : tie.Need-farthest-taken-requires Inv-loop μ-loop
+farthest-taken-requires c κs = to-low (planned c) (from c .pre .1 .0)
+
+mul-starts : tie.Need-mul-starts Inv-loop μ-loop
+mul-starts c = search needs
+
+slice-write-starts : tie.Need-slice-write-starts Inv-loop μ-loop
+slice-write-starts c = omega (arith, turn (c .before) .loop .inv .1 .size, from (c .before) .pre .1 .1 .0)
+
+farthest-taken-requires-2 : tie.Need-farthest-taken-requires-2 Inv-loop μ-loop
+farthest-taken-requires-2 c κs = to-high (planned (c .before)) (from (c .before) .pre .1 .0)
+
+mul-stops : tie.Need-mul-stops Inv-loop μ-loop
+mul-stops c = omega (arith, from (c .before .before) .pre .0 .sound .few)
+
+slice-write-stops : tie.Need-slice-write-stops Inv-loop μ-loop
+slice-write-stops c = omega (arith, turn (c .before .before) .loop .inv .2 .size, from (c .before .before) .pre .1 .1 .1)
+
+add-member : tie.Need-add-member Inv-loop μ-loop
+add-member c = omega (arith, from (c .before .before) .pre .0 .sound .few)
+
+loop-less : tie.Need-loop-less Inv-loop μ-loop
+loop-less c = search needs
+
+loop-again : tie.Need-loop-again Inv-loop μ-loop
+loop-again c =
+    let m = c .before .before in
+    let inv = turn m .loop .inv in (
+      search needs,
+      filled-more (inv .1) (omega (arith, many-lows (from m))) (omega (arith, from m .pre .1 .1 .0)) _
+          (low-reached (planned m) (c .before .farthest-taken .ensures) ∙ sym (narrowedLows-at _ _ _ _ (i m) (omega arith))),
+      filled-more (inv .2) (omega (arith, many-highs (from m))) (omega (arith, from m .pre .1 .1 .1)) _
+          (high-reached (planned m) (c .farthest-taken2 .ensures) ∙ sym (narrowedHighs-at _ _ _ _ (i m) (omega arith))),
+      next m,
+    )
+
+same-length : tie.Need-same-length Inv-loop μ-loop
+same-length c = c .before .loop .inv .1 .size
+
+same-length-2 : tie.Need-same-length-2 Inv-loop μ-loop
+same-length-2 c = c .before .loop .inv .2 .size
+
+returns-2 : tie.Need-returns-2 Inv-loop μ-loop
+returns-2 c =
+    let inv = c .before .loop .inv in
+    let s = begun (c .before .before) in (
+      sym (found-turn _ _ _ _ (has-one (c .before .before) .found)),
+      (
+        filled-all (inv .1) (s .pre .1 .1 .0 ∙ sym (many-lows s)) (omega (arith, many-lows s)),
+        filled-all (inv .2) (s .pre .1 .1 .1 ∙ sym (many-highs s)) (omega (arith, many-highs s)),
+      ),
+    )
+
+pub narrow-on-spec : {M : Type 1} → statement M
+narrow-on-spec =
+    tie.close
+    (tie.spec
+    Inv-loop
+    μ-loop
+    level-on-requires
+    has-plan-requires
+    returns
+    loop-holds
+    mul-low
+    shared-slice-read-low
+    mul-high
+    shared-slice-read-high
+    extra-requires
+    clamp-requires
+    add-value
+    sub-left
+    farthest-taken-requires
+    mul-starts
+    slice-write-starts
+    farthest-taken-requires-2
+    mul-stops
+    slice-write-stops
+    add-member
+    loop-less
+    loop-again
+    same-length
+    same-length-2
+    returns-2)

@@ -1,0 +1,168 @@
+// Narrowing a group's ranges: a value stays exactly if the group pinned to it has a plan.
+use crate::ends::farthest_taken;
+use model::MOST_UNITS;
+use model::Question;
+use model::Turn;
+use model::levels::clamp;
+use model::levels::extra;
+use model::lists::copy;
+use model::running::pack;
+use model::running::unpack;
+use model::shares::has_shares;
+use probe::build::build;
+use probe::probing::Trial;
+use probe::probing::has_plan;
+use probe::probing::level_on;
+ghost use mathlib.Core.Path.{_≡_};
+ghost use Prim.Native.Nat.{_≤_};
+ghost use lib.ListN.{length, take};
+ghost use Rattle.model.specs.Plans.{turnOf, narrowedLows, narrowedHighs};
+ghost use Rattle.model.specs.Running.{Marked};
+ghost use Rattle.model.specs.Sound.{SoundRanges, HasShares};
+ghost use Rattle.narrow.specs.Inner.Turns.{afterTurn, Turned, MarkedTurned};
+ghost use Rattle.narrow.specs.Inner.Tabled.{Tabled, TableLists, TableRoom};
+
+// Writes the narrowed ranges of a group that has shares over starts and stops, or says that it has no plan.
+fn narrow_on(
+    lows: &[u64],
+    highs: &[u64],
+    table: &[u64],
+    question: Question,
+    starts: &mut [u64],
+    stops: &mut [u64],
+) -> Turn
+    requires { ⌜ HasShares (now lows) (now highs) (question .total) ⌝ }
+    requires { ⌜ Tabled (now lows) (now highs) (question .total) (now table) ⌝ }
+    requires { ⌜ length (now starts) ≡ length (now lows) ⌝ }
+    requires { ⌜ length (now stops) ≡ length (now lows) ⌝ }
+    ensures { λ r. ⌜ r ≡ turnOf (now (lows .entry)) (now (highs .entry)) (question .total) (question .limits) ⌝ }
+    ensures { λ r. ⌜ now (starts .exit) ≡ afterTurn r (narrowedLows (now (lows .entry)) (now (highs .entry)) (question .total) (question .limits)) (now (starts .entry)) ⌝ }
+    ensures { λ r. ⌜ now (stops .exit) ≡ afterTurn r (narrowedHighs (now (lows .entry)) (now (highs .entry)) (question .total) (question .limits)) (now (stops .entry)) ⌝ }
+{
+    let levelled = level_on(lows, highs, table, question.total);
+    let row = levelled.row;
+    if !has_plan(lows, highs, table, question, row) {
+        return Turn::NoPlan(12);
+    }
+    let v = levelled.level;
+    let mut left = levelled.over;
+    let mut member: usize = 0;
+    while member < lows.len() {
+        let low = lows[member];
+        let high = highs[member];
+        let more = extra(low, high, v, left);
+        let value = clamp(low, high, v) + more;
+        let share = Trial { member, value, row };
+        left -= more;
+        starts[member] = farthest_taken(lows, highs, table, question, share, low);
+        stops[member] = farthest_taken(lows, highs, table, question, share, high);
+        member += 1;
+    }
+    Turn::Narrowed
+}
+
+// Narrows sound lists in place, or says that there is no plan and leaves them as they were. The three further lists
+// are room to work in: starts and stops as long as the group, and the table; they hold anything afterwards.
+fn narrow_with(
+    lows: &mut [u64],
+    highs: &mut [u64],
+    question: Question,
+    starts: &mut [u64],
+    stops: &mut [u64],
+    table: &mut [u64],
+) -> Turn
+    requires { ⌜ SoundRanges (now lows) (now highs) ⌝ }
+    requires { ⌜ TableLists (length (now lows)) (now starts) (now stops) (now table) ⌝ }
+    ensures { λ r. ⌜ Turned (now (lows .entry)) (now (highs .entry)) (question .total) (question .limits) r (now (lows .exit)) (now (highs .exit)) ⌝ }
+{
+    let total = question.total;
+    if !has_shares(lows, highs, total) {
+        return Turn::NoPlan(11);
+    }
+    build(lows, highs, starts, stops, total, table);
+    let turn = narrow_on(lows, highs, table, question, starts, stops);
+    let Turn::Narrowed = turn else {
+        return turn;
+    };
+    copy(starts, lows);
+    copy(stops, highs);
+    turn
+}
+
+// The same with arrays that have room for the group.
+fn narrow_within(
+    lows: &mut [u64],
+    highs: &mut [u64],
+    question: Question,
+    starts: &mut [u64],
+    stops: &mut [u64],
+    table: &mut [u64],
+) -> Turn
+    requires { ⌜ SoundRanges (now lows) (now highs) ⌝ }
+    requires { ⌜ TableRoom (length (now lows)) (now starts) (now stops) (now table) ⌝ }
+    ensures { λ r. ⌜ Turned (now (lows .entry)) (now (highs .entry)) (question .total) (question .limits) r (now (lows .exit)) (now (highs .exit)) ⌝ }
+{
+    let count = lows.len();
+    narrow_with(
+        lows,
+        highs,
+        question,
+        &mut starts[..count],
+        &mut stops[..count],
+        table,
+    )
+}
+
+// The same for a group of at most 16 members, with small arrays: clearing large ones would be much of its time.
+fn narrow_few(lows: &mut [u64], highs: &mut [u64], question: Question) -> Turn
+    requires { ⌜ SoundRanges (now lows) (now highs) ⌝ }
+    requires { ⌜ length (now lows) ≤ 16 ⌝ }
+    ensures { λ r. ⌜ Turned (now (lows .entry)) (now (highs .entry)) (question .total) (question .limits) r (now (lows .exit)) (now (highs .exit)) ⌝ }
+{
+    let mut starts = [0u64; 16];
+    let mut stops = [0u64; 16];
+    let mut table = [0u64; 198];
+    narrow_within(lows, highs, question, &mut starts, &mut stops, &mut table)
+}
+
+// Narrows sound lists in place, or says that there is no plan and leaves them as they were.
+pub fn narrow_core(lows: &mut [u64], highs: &mut [u64], question: Question) -> Turn
+    requires { ⌜ SoundRanges (now lows) (now highs) ⌝ }
+    ensures { λ r. ⌜ Turned (now (lows .entry)) (now (highs .entry)) (question .total) (question .limits) r (now (lows .exit)) (now (highs .exit)) ⌝ }
+{
+    if lows.len() <= 16 {
+        return narrow_few(lows, highs, question);
+    }
+    let mut starts = [0u64; MOST_UNITS];
+    let mut stops = [0u64; MOST_UNITS];
+    let mut table = [0u64; 3078];
+    narrow_within(lows, highs, question, &mut starts, &mut stops, &mut table)
+}
+
+// The same for the first members of lists.
+fn narrow_front(lows: &mut [u64], highs: &mut [u64], count: usize, question: Question) -> Turn
+    requires { ⌜ SoundRanges (take count (now lows)) (take count (now highs)) ⌝ }
+    requires { ⌜ (count ≤ length (now lows)) × (count ≤ length (now highs)) ⌝ }
+    ensures { λ r. ⌜ Turned (take count (now (lows .entry))) (take count (now (highs .entry))) (question .total) (question .limits) r (take count (now (lows .exit))) (take count (now (highs .exit))) ⌝ }
+{
+    narrow_core(&mut lows[..count], &mut highs[..count], question)
+}
+
+// Narrows the running members of sound lists in place, or says that there is no plan and leaves them as they were.
+pub fn narrow_running(
+    lows: &mut [u64],
+    highs: &mut [u64],
+    marks: &[u64],
+    question: Question,
+) -> Turn
+    requires { ⌜ SoundRanges (now lows) (now highs) ⌝ }
+    requires { ⌜ Marked (now marks) (now lows) (now highs) ⌝ }
+    ensures { λ r. ⌜ MarkedTurned (now (marks .entry)) (now (lows .entry)) (now (highs .entry)) (question .total) (question .limits) r (now (lows .exit)) (now (highs .exit)) ⌝ }
+{
+    let count = pack(marks, lows);
+    pack(marks, highs);
+    let turn = narrow_front(lows, highs, count, question);
+    unpack(marks, lows, count);
+    unpack(marks, highs, count);
+    turn
+}
