@@ -30,6 +30,9 @@ fn row_of(table: &Table, member: Member, value: u64, near: usize) -> usize {
 
 /// The value nearest to one end of the member's range that some plan takes.
 fn end(table: &Table, member: Member, end: u64) -> u64 {
+    if end == member.share {
+        return end;
+    }
     let mut untaken = table.into_reach(member, end);
     let mut far = row_of(table, member, untaken, table.near);
     if table.met_with(table.others(far, member), untaken) {

@@ -128,6 +128,10 @@ pub(crate) fn farthest_taken(
     requires { ⌜ Approach (now lows) (now highs) (now table) (question .total) (question .limits) (share .member) end (share .value) ⌝ }
     ensures { λ r. ⌜ Reaches (taken (now (lows .entry)) (now (highs .entry)) (question .total) (question .limits) (share .member)) end (share .value) r ⌝ }
 {
+    // Some plan gives the share.
+    if end == share.value {
+        return end;
+    }
     let member = share.member;
     let low = lows[member];
     let high = highs[member];

@@ -1,4 +1,4 @@
--- The end moved into reach is tried first, and then the way to it is searched, by rows and by values. Assumes nothing.
+-- An end that is the share is taken; else the end moved into reach is tried first, and then the way to it is searched, by rows and by values. Assumes nothing.
 use borrow.Author.Needs.{needs}
 use native.Mathlib.Omega.{arith}
 use mathlib.Core.Bool.{false}
@@ -7,13 +7,16 @@ use mathlib.Core.Path.{_≡_, sym, _∙_}
 use Prim.Native.Nat.{ℕ}
 use Rattle.model.specs.Plans.{taken}
 use Rattle.model.specs.declared.Limits.{Limits}
-use Rattle.narrow.specs.Inner.Edges.{Approach}
+use Rattle.narrow.specs.Inner.Edges.{Reaches, Approach}
 use Rattle.narrow.specs.Inner.Flanks.{Search}
 use Rattle.narrow.specs.Laws.Edges.{nearest-reach, nearest-edge}
 use Rattle.narrow.specs.Laws.Flanks.{flanking-of, row-edge}
 use Rattle.narrow.specs.Laws.Reaching.{MovedIntoReach, probes, room, moved, share-reach}
 use Rattle.narrow.proofs.ends.farthest_taken.Statement.{statement}
 use Rattle.narrow.proofs.ends.farthest_taken.Tie as tie
+
+returns : tie.Need-returns
+returns c = Reaches.whole (rw (c .if1 .taken) (c .before .before .before .before .before .pre .passes))
 
 mul-low : tie.Need-mul-low
 mul-low c = search needs
@@ -32,13 +35,13 @@ mul-last c = search needs
 
 into-reach-requires : tie.Need-into-reach-requires
 into-reach-requires c κs =
-    let way = c .before .before .before .before .before .pre in
+    let way = c .before .before .before .before .before .before .before .pre in
     (probes way _ (way .small), (way .tabled .sound .small, room way))
 
 -- what the move gives
 module _ (c : tie.After-into-reach) where
   abbrev start : tie.Start
-  start = c .before .before .before .before .before .before
+  start = c .before .before .before .before .before .before .before .before
 
   abbrev lows : List ℕ
   lows = start .args .lows .now
@@ -70,8 +73,8 @@ taken-at-requires c κs =
     let t = there (c .before) in
     record { sound = w .tabled .sound; held = w .tabled .held; here = w .here; small = t .small; reach = t .inReach; found = c .last-within .ensures }
 
-returns : tie.Need-returns
-returns c = nearest-reach (there (c .before .before .before) .nearest) (sym (c .before .taken-at .ensures) ∙ c .if1 .taken)
+returns-2 : tie.Need-returns-2
+returns-2 c = nearest-reach (there (c .before .before .before) .nearest) (sym (c .before .taken-at .ensures) ∙ c .if2 .taken)
 
 last-within-requires-2 : tie.Need-last-within-requires-2
 last-within-requires-2 c κs =
@@ -79,12 +82,12 @@ last-within-requires-2 c κs =
     (probes w _ (w .share-small), share-reach w .least)
 
 -- the value in reach is not taken: the way from the share to it is searched
-module _ (e : tie.Else1) where
+module _ (e : tie.Else2) where
   abbrev from : tie.After-into-reach
   from = e .before .before .before
 
   fails : taken (lows from) (highs from) (total from) (limits from) (i from) (from .into-reach .result) ≡ false
-  fails = sym (e .before .taken-at .ensures) ∙ e .if1 .left
+  fails = sym (e .before .taken-at .ensures) ∙ e .if2 .left
 
   searched : Search (lows from) (highs from) (start from .args .table .now) (total from) (limits from) (i from) (from .into-reach .result) (start from .args .share .value)
   searched =
@@ -108,8 +111,8 @@ to-one-row-requires c κs =
 edge-requires : tie.Need-edge-requires
 edge-requires c κs = c .to-one-row .ensures .ends
 
-returns-2 : tie.Need-returns-2
-returns-2 c =
+returns-3 : tie.Need-returns-3
+returns-3 c =
     let f = c .before .before in
     let e = f .before .before in
     nearest-edge (there (from e) .nearest) (fails e) (way (from e) .passes)
@@ -119,6 +122,7 @@ pub farthest-taken-spec : {M : Type 1} → statement M
 farthest-taken-spec =
     tie.close
     (tie.spec
+    returns
     mul-low
     shared-slice-read-low
     mul-high
@@ -127,9 +131,9 @@ farthest-taken-spec =
     into-reach-requires
     last-within-requires
     taken-at-requires
-    returns
+    returns-2
     last-within-requires-2
     flanks-of-requires
     to-one-row-requires
     edge-requires
-    returns-2)
+    returns-3)
