@@ -1,7 +1,7 @@
 //! A group's breakpoints: its bounds in order, each with the sums of the shares levelled there. Between two of them every
 //! member either keeps its share or moves with the level, so that the sums at any level follow from one row.
 
-use danivomel::{Deviation, Limits, Spread};
+use danivomel::{Deviation, Limit, Limits, Spread};
 use danivomel_tests::calls::met;
 use danivomel_tests::independent::level::{clamp, deviation_part};
 
@@ -152,14 +152,31 @@ impl<'a> Table<'a> {
         Row { level: row.level, growing, sums: self.without(row.sums, 1, own) }
     }
 
-    /// Whether the limits are met where a member takes a value and the others are between their row and the next one.
-    pub fn met_with(&self, others: Row, value: u64) -> bool {
-        let (_, _, sums) = self.spend(others, self.total - value);
-        self.met(self.with(sums, 1, value))
+    /// Whether the limits are met where a member takes a value and the others are between their row and the next one, and
+    /// where they are not, how many values inward they can be at the soonest: Newton's step. A value nearer takes at most
+    /// 2 n off the deviation, and 2 n times its distance from the others' level off the spread.
+    pub fn tried(&self, others: Row, value: u64) -> (bool, u64) {
+        let (level, _, sums) = self.spend(others, self.total - value);
+        let sums = self.with(sums, 1, value);
+        let spread = self.n * sums.squares - self.total * self.total;
+        let by_deviation = steps(excess(self.limits.deviation, sums.deviation), 2 * self.n);
+        let by_spread = steps(excess(self.limits.spread, spread), 2 * self.n * value.abs_diff(level).max(1));
+        (by_deviation == 0 && by_spread == 0, by_deviation.max(by_spread))
     }
+}
 
-    /// Whether the limits are met where the others are at their row and a member takes what is left of the total.
-    pub fn met_at(&self, others: Row) -> bool {
-        self.met(self.with(others.sums, 1, self.total - others.sums.total))
+/// By how much a figure is over its limit.
+fn excess(limit: Limit, figure: u64) -> u64 {
+    match limit {
+        Limit::Any => 0,
+        Limit::AtMost(most) => figure.saturating_sub(most),
     }
+}
+
+/// How many steps take so much off, where each takes off at most so much.
+fn steps(much: u64, each: u64) -> u64 {
+    if much == 0 {
+        return 0;
+    }
+    (much - 1) / each + 1
 }

@@ -1,7 +1,10 @@
-//! The ends of a member's range by rows, as the proved planner finds them: an end out of reach is moved to the nearest value
-//! that the others can make up for; then bisection over the rows at which the others can be, and over the values of one row.
+//! The ends of a member's range, as the proved planner finds them: an end out of reach is moved to the nearest value that the
+//! others can make up for; then Newton's steps over the values, and bisection after a fixed number of them.
 
-use super::breakpoints::{Member, Row, Table};
+use super::breakpoints::{Member, Table};
+
+/// How many of Newton's steps an end gets before bisection takes over, which bounds the search.
+const NEWTON_STEPS: u32 = 8;
 
 /// The least and the greatest value of the member that some plan takes.
 pub fn ends(table: &Table, member: Member) -> (u64, u64) {
@@ -28,45 +31,34 @@ fn row_of(table: &Table, member: Member, value: u64, near: usize) -> usize {
     row
 }
 
-/// The value nearest to one end of the member's range that some plan takes.
+/// The value nearest to one end of the member's range that some plan takes. The levelled share is one.
 fn end(table: &Table, member: Member, end: u64) -> u64 {
     if end == member.share {
         return end;
     }
-    let mut untaken = table.into_reach(member, end);
-    let mut far = row_of(table, member, untaken, table.near);
-    if table.met_with(table.others(far, member), untaken) {
-        return untaken;
+    let (mut outer, mut inner) = (table.into_reach(member, end), member.share);
+    let mut row = row_of(table, member, outer, table.near);
+    let (mut taken, mut step) = table.tried(table.others(row, member), outer);
+    if taken {
+        return outer;
     }
-    let mut found = member.share;
-    let mut own = row_of(table, member, found, table.near);
-    if untaken < found {
-        far += 1;
-    } else {
-        own += 1;
-    }
-    while far.abs_diff(own) > 1 {
-        let middle = (far + own) / 2;
-        let others = table.others(middle, member);
-        let value = table.total - others.sums.total;
-        if table.met_at(others) {
-            (found, own) = (value, middle);
+    let mut tries = 0;
+    while outer.abs_diff(inner) > 1 {
+        let far = outer.abs_diff(inner);
+        let inward = match taken {
+            _ if tries == NEWTON_STEPS => far / 2,
+            true => far - 1,
+            false => step.clamp(1, far - 1),
+        };
+        tries = (tries + 1).min(NEWTON_STEPS);
+        let value = if outer < inner { outer + inward } else { outer - inward };
+        row = row_of(table, member, value, row);
+        (taken, step) = table.tried(table.others(row, member), value);
+        if taken {
+            inner = value;
         } else {
-            (untaken, far) = (value, middle);
+            outer = value;
         }
     }
-    between(table, table.others(far.min(own), member), found, untaken)
-}
-
-/// The value nearest to an untaken one that some plan takes, both of one row.
-fn between(table: &Table, others: Row, mut found: u64, mut untaken: u64) -> u64 {
-    while found.abs_diff(untaken) > 1 {
-        let middle = (found + untaken) / 2;
-        if table.met_with(others, middle) {
-            found = middle;
-        } else {
-            untaken = middle;
-        }
-    }
-    found
+    inner
 }

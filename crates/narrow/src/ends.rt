@@ -1,115 +1,83 @@
 // The ends of a member's range: how far from its share plans give it values.
 use model::Question;
+use model::Share;
+use model::levels::clamp;
 use model::numbers::apart;
 use probe::pinned::into_reach;
-use probe::pinned::last_within;
-use probe::pinned::value_at;
 use probe::probing::Trial;
-use probe::probing::taken_at;
-use probe::rows::read_row;
-ghost use mathlib.Core.Path.{_≡_};
-ghost use Prim.Native.Nat.{_≤_, min};
+use probe::probing::try_value;
+ghost use Prim.Native.Nat.{_<_};
+ghost use Rattle.model.specs.Figures.{apart};
 ghost use Rattle.model.specs.Plans.{taken};
-ghost use Rattle.narrow.specs.Inner.Edges.{Edge, Reaches, Approach};
-ghost use Rattle.narrow.specs.Inner.Flanks.{Flanking, OneRow, ToOneRow, flanksOf};
+ghost use Rattle.narrow.specs.Inner.Edges.{Amid, Edge, Reaches, Approach, Search};
 
-// Two values of a member, of which no plan gives it the outer one and some plan the inner one, and the rows on either side of theirs.
-struct Flanks {
-    member: usize,
-    outer: u64,
-    inner: u64,
-    far: usize,
-    near: usize,
-}
+// How many of Newton's steps an end gets before bisection takes over, which bounds the search.
+const NEWTON_STEPS: u64 = 8;
 
-// Two such values of one row.
+// Two values of a member, of which no plan gives it the outer one and some plan the inner one; how far inward of the outer
+// one to look next, and a row to look at first.
 struct Gap {
     member: usize,
     outer: u64,
     inner: u64,
+    inward: u64,
     row: usize,
 }
 
-// The earlier of two rows.
-fn earlier(a: usize, b: usize) -> usize
-    ensures { λ r. ⌜ r ≡ min a b ⌝ }
+// How far inward to go next between two values that are so far apart: as far as said while tries are left, then halfway.
+fn step_within(far: u64, inward: u64, tries: u64) -> u64
+    requires { ⌜ 1 < far ⌝ }
+    ensures { λ r. ⌜ (0 < r) × (r < far) ⌝ }
 {
-    if a < b {
-        return a;
+    if tries == 0 {
+        return far / 2;
     }
-    b
+    clamp(1, far - 1, inward)
 }
 
-// A member's values with the rows on either side of theirs: the row of the lesser value moved on by one.
-fn flanks_of(member: usize, outer: u64, inner: u64, far: usize, near: usize) -> Flanks
-    requires { ⌜ (far ≤ 512) × (near ≤ 512) ⌝ }
-    ensures { λ r. ⌜ r ≡ flanksOf member outer inner far near ⌝ }
+// The value to try next, strictly between the two.
+fn next_value(outer: u64, inner: u64, inward: u64, tries: u64) -> u64
+    requires { ⌜ 1 < apart outer inner ⌝ }
+    ensures { λ r. ⌜ Amid outer inner r ⌝ }
 {
+    let step = step_within(apart(outer, inner), inward, tries);
     if outer < inner {
-        return Flanks {
-            member,
-            outer,
-            inner,
-            far: far + 1,
-            near,
-        };
+        return outer + step;
     }
-    Flanks {
-        member,
-        outer,
-        inner,
-        far,
-        near: near + 1,
-    }
+    outer - step
 }
 
-// Brings the two values to one row: by bisection over the rows at which the others can be.
-fn to_one_row(lows: &[u64], highs: &[u64], table: &[u64], question: Question, flanks: Flanks) -> Gap
-    requires { ⌜ Flanking (now lows) (now highs) (now table) (question .total) (question .limits) flanks ⌝ }
-    ensures { λ r. ⌜ ToOneRow (now (lows .entry)) (now (highs .entry)) (now (table .entry)) (question .total) (question .limits) flanks r ⌝ }
-{
-    let member = flanks.member;
-    let low = lows[member];
-    let high = highs[member];
-    let mut outer = flanks.outer;
-    let mut inner = flanks.inner;
-    let mut far = flanks.far;
-    let mut near = flanks.near;
-    while 1 < apart(far as u64, near as u64) {
-        let row = (far + near) / 2;
-        let value = value_at(read_row(table, row), low, high, question.total);
-        if taken_at(lows, highs, table, question, Trial { member, value, row }) {
-            inner = value;
-            near = row;
-        } else {
-            outer = value;
-            far = row;
-        }
+// One try fewer, where there is one.
+fn fewer(tries: u64) -> u64 {
+    if tries == 0 {
+        return 0;
     }
-    let row = earlier(far, near);
-    Gap {
-        member,
-        outer,
-        inner,
-        row,
-    }
+    tries - 1
 }
 
-// The value nearest to the outer one of a gap that some plan gives the member: by bisection over the values between.
+// The value nearest to the outer one of a gap that some plan gives the member. Newton's steps do not pass it, so that after
+// a value that is taken the one next to it is tried.
 fn edge(lows: &[u64], highs: &[u64], table: &[u64], question: Question, gap: Gap) -> u64
-    requires { ⌜ OneRow (now lows) (now highs) (now table) (question .total) (question .limits) gap ⌝ }
+    requires { ⌜ Search (now lows) (now highs) (now table) (question .total) (question .limits) (gap .member) (gap .outer) (gap .inner) ⌝ }
     ensures { λ r. ⌜ Edge (taken (now (lows .entry)) (now (highs .entry)) (question .total) (question .limits) (gap .member)) (gap .outer) (gap .inner) r ⌝ }
 {
     let member = gap.member;
-    let row = gap.row;
     let mut outer = gap.outer;
     let mut inner = gap.inner;
+    let mut inward = gap.inward;
+    let mut row = gap.row;
+    let mut tries = NEWTON_STEPS;
     while 1 < apart(outer, inner) {
-        let value = (outer + inner) / 2;
-        if taken_at(lows, highs, table, question, Trial { member, value, row }) {
+        let value = next_value(outer, inner, inward, tries);
+        let tried = try_value(lows, highs, table, question, Trial { member, value, row });
+        row = tried.row;
+        tries = fewer(tries);
+        if tried.taken {
             inner = value;
+            inward = Share::GREATEST;
         } else {
             outer = value;
+            inward = tried.inward;
         }
     }
     inner
@@ -133,17 +101,27 @@ pub(crate) fn farthest_taken(
         return end;
     }
     let member = share.member;
-    let low = lows[member];
-    let high = highs[member];
-    let total = question.total;
+    let inner = share.value;
     let last = 2 * lows.len();
-    let value = into_reach(table, last, low, high, end, total);
-    let row = last_within(table, last, low, high, value, total, share.row);
-    if taken_at(lows, highs, table, question, Trial { member, value, row }) {
+    let value = into_reach(
+        table,
+        last,
+        lows[member],
+        highs[member],
+        end,
+        question.total,
+    );
+    let row = share.row;
+    let tried = try_value(lows, highs, table, question, Trial { member, value, row });
+    if tried.taken {
         return value;
     }
-    let own = last_within(table, last, low, high, share.value, total, share.row);
-    let around = flanks_of(member, value, share.value, row, own);
-    let gap = to_one_row(lows, highs, table, question, around);
+    let gap = Gap {
+        member,
+        outer: value,
+        inner,
+        inward: tried.inward,
+        row: tried.row,
+    };
     edge(lows, highs, table, question, gap)
 }

@@ -1,6 +1,7 @@
 // The breakpoint table of a group, and probes of pinned values on it.
 pub mod build;
 pub mod figures;
+pub mod newton;
 pub mod order;
 pub mod pinned;
 pub mod probing;

@@ -5,7 +5,7 @@ use model::levels::clamp;
 use model::levels::growth;
 ghost use mathlib.Core.Path.{_≡_};
 ghost use Prim.Native.Nat.{_+_, _-_, _≤_, _<_};
-ghost use Rattle.model.specs.Shares.{greatestShare, greatestTotal};
+ghost use Rattle.model.specs.Shares.{greatestTotal};
 ghost use Rattle.model.specs.Levels.{clamp, growth};
 ghost use Rattle.probe.specs.Inner.Rows.{rowAt};
 ghost use Rattle.probe.specs.Inner.Probes.{Pinnable, Probeable, LastWithin, IntoReach, Divided, pinnedTotal};
@@ -103,15 +103,6 @@ pub fn into_reach(table: &[u64], last: usize, low: u64, high: u64, v: u64, total
         return v - (least - total);
     }
     v
-}
-
-// The value of a member where the others are at a row.
-pub fn value_at(row: Row, low: u64, high: u64, total: u64) -> u64
-    requires { ⌜ (low ≤ high) × (high ≤ greatestShare) × (total ≤ greatestTotal) ⌝ }
-    requires { ⌜ row .total ≤ total + clamp low high (row .mark) ⌝ }
-    ensures { λ r. ⌜ pinnedTotal row low high r ≡ total ⌝ }
-{
-    total + clamp(low, high, row.mark) - row.total
 }
 
 // The level that the copies left over at a row reach.

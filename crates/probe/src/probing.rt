@@ -1,6 +1,7 @@
 // Probes of pinned values on the breakpoint table of a group.
 use crate::figures::pinned_deviation;
 use crate::figures::pinned_squares;
+use crate::newton::newton_step;
 use crate::pinned::last_within;
 use crate::pinned::pinned_total;
 use crate::pinned::reach_from;
@@ -9,6 +10,7 @@ use model::Figures;
 use model::Question;
 use model::Spread;
 use model::levels::clamp;
+use model::numbers::apart;
 ghost use mathlib.Core.Path.{_≡_};
 ghost use Prim.Native.Nat.{_*_, _≤_};
 ghost use lib.ListN.{length};
@@ -17,6 +19,12 @@ ghost use Rattle.probe.specs.Inner.Rows.{rowAt};
 ghost use Rattle.probe.specs.Inner.Tables.{SoundWithTotal, Breakpoints};
 ghost use Rattle.probe.specs.Inner.Probes.{LastWithin, InReach, LevelledOn, pinnedTotal};
 ghost use Rattle.probe.specs.Inner.Verdicts.{Asked, PinnedFigures, Triable};
+
+// The figures of a pinned group's levelled shares, and the level of the others there.
+struct Pinned {
+    figures: Figures,
+    level: u64,
+}
 
 // The figures of the pinned group's levelled shares, from the row below its level.
 fn pinned_figures(
@@ -28,13 +36,13 @@ fn pinned_figures(
     high: u64,
     v: u64,
     total: u64,
-) -> Figures
+) -> Pinned
     requires { ⌜ SoundWithTotal (now lows) (now highs) total ⌝ }
     requires { ⌜ Breakpoints (now lows) (now highs) total (now table) ⌝ }
     requires { ⌜ Asked (now lows) (now highs) low high v ⌝ }
     requires { ⌜ LastWithin (now table) (2 * length (now lows)) low high v total k ⌝ }
     requires { ⌜ total ≤ pinnedTotal (rowAt (now table) (2 * length (now lows))) low high v ⌝ }
-    ensures { λ r. ⌜ PinnedFigures (now (lows .entry)) (now (highs .entry)) low high v total r ⌝ }
+    ensures { λ r. ⌜ PinnedFigures (now (lows .entry)) (now (highs .entry)) low high v total (r .figures) ⌝ }
 {
     let count = lows.len() as u64;
     let row = read_row(table, k);
@@ -43,43 +51,52 @@ fn pinned_figures(
     let own = clamp(low, high, row.mark);
     let deviation = pinned_deviation(count, total, row, own, v, reach);
     let squares = pinned_squares(row, own, v, reach);
-    Figures {
+    let figures = Figures {
         deviation,
         spread: Spread::from_squares(count, squares, total),
-    }
+    };
+    let level = reach.level;
+    Pinned { figures, level }
 }
 
-// A value tried for a member, and the row below the level at which the others make up for it.
+// A value to try for a member, and a row to look at first.
 pub struct Trial {
     pub member: usize,
     pub value: u64,
     pub row: usize,
 }
 
-// Whether the group with the member pinned to the value has a plan.
-pub fn taken_at(
+// What a trial tells: whether the group with the member pinned to the value has a plan, how far inward the next value to
+// try is where it has none, and the row found.
+pub struct Tried {
+    pub taken: bool,
+    pub inward: u64,
+    pub row: usize,
+}
+
+// Tries a value.
+pub fn try_value(
     lows: &[u64],
     highs: &[u64],
     table: &[u64],
     question: Question,
     trial: Trial,
-) -> bool
+) -> Tried
     requires { ⌜ Triable (now lows) (now highs) (now table) (question .total) trial ⌝ }
-    ensures { λ r. ⌜ r ≡ taken (now (lows .entry)) (now (highs .entry)) (question .total) (question .limits) (trial .member) (trial .value) ⌝ }
+    ensures { λ r. ⌜ r .taken ≡ taken (now (lows .entry)) (now (highs .entry)) (question .total) (question .limits) (trial .member) (trial .value) ⌝ }
 {
     let i = trial.member;
+    let v = trial.value;
+    let low = lows[i];
+    let high = highs[i];
     let total = question.total;
-    let figures = pinned_figures(
-        lows,
-        highs,
-        table,
-        trial.row,
-        lows[i],
-        highs[i],
-        trial.value,
-        total,
-    );
-    question.limits.met(figures)
+    let count = lows.len();
+    let row = last_within(table, 2 * count, low, high, v, total, trial.row);
+    let pinned = pinned_figures(lows, highs, table, row, low, high, v, total);
+    let distance = apart(v, pinned.level);
+    let inward = newton_step(count as u64, question.limits, pinned.figures, distance);
+    let taken = question.limits.met(pinned.figures);
+    Tried { taken, inward, row }
 }
 
 // A level with the copies left over there, and the row below it.
@@ -117,6 +134,6 @@ pub fn has_plan(lows: &[u64], highs: &[u64], table: &[u64], question: Question, 
     ensures { λ r. ⌜ r ≡ hasPlan (now (lows .entry)) (now (highs .entry)) (question .total) (question .limits) ⌝ }
 {
     let total = question.total;
-    let figures = pinned_figures(lows, highs, table, row, 0, 0, 0, total);
-    question.limits.met(figures)
+    let pinned = pinned_figures(lows, highs, table, row, 0, 0, 0, total);
+    question.limits.met(pinned.figures)
 }

@@ -8,7 +8,13 @@ use Rattle.model.specs.Shares.{greatestShare}
 use Rattle.model.specs.Figures.{apart}
 use Rattle.model.specs.Plans.{taken}
 use Rattle.model.specs.declared.Limits.{Limits}
+use Rattle.probe.specs.Inner.Probes.{MadeUp}
 use Rattle.narrow.specs.Inner.Tabled.{Tabled}
+
+-- strictly between two values
+pub record Amid (outer inner middle : ℕ) : Type 0 where
+  pub rising : outer < inner → (outer < middle) × (middle < inner)
+  pub falling : inner < outer → (inner < middle) × (middle < outer)
 
 -- outer fails the test and inner passes it; they lie between two values in that order
 pub record Straddle (test : ℕ → Bool) (outside inside outer inner : ℕ) : Type 0 where
@@ -35,3 +41,9 @@ pub record Approach (lows highs table : List ℕ) (total : ℕ) (limits : Limits
   pub small : end ≤ greatestShare
   pub share-small : share ≤ greatestShare
   pub passes : taken lows highs total limits i share ≡ true
+
+-- one to a value that the others can make up for, but no plan gives the member
+pub record Search (lows highs table : List ℕ) (total : ℕ) (limits : Limits) (i outer inner : ℕ) : Type 0 where
+  pub way : Approach lows highs table total limits i outer inner
+  pub fails : taken lows highs total limits i outer ≡ false
+  pub reach : MadeUp lows highs table total i outer

@@ -1,5 +1,5 @@
 -- The search for the end of a range of values that pass a test. Assumes nothing.
-use Prim.Native.Nat.{ℕ, _+_, _/_, _≤_, _<_}
+use Prim.Native.Nat.{ℕ, _≤_, _<_}
 use native.Mathlib.Decide.{decLt}
 use native.Mathlib.Omega.{arith}
 use mathlib.Core.Bool.{Bool, true, false}
@@ -12,11 +12,7 @@ use Rattle.model.specs.Plans.{taken}
 use Rattle.model.specs.Laws.Tests.{clash}
 use Rattle.model.specs.declared.Limits.{Limits}
 use Rattle.narrow.specs.Inner.Tabled.{HasPlan}
-use Rattle.narrow.specs.Inner.Edges.{Straddle, Edge, Reaches}
-
--- so they differ
-pub straddle-differ : {test : ℕ → Bool} {outside inside outer inner : ℕ} → Straddle test outside inside outer inner → outer ≢ inner
-straddle-differ {test} held same = clash (held .passes) (ap test (sym same) ∙ held .fails)
+use Rattle.narrow.specs.Inner.Edges.{Amid, Straddle, Edge, Reaches}
 
 -- the two values themselves, at the start
 pub straddle-start : (test : ℕ → Bool) (outside inside : ℕ) → test outside ≡ false → test inside ≡ true
@@ -66,16 +62,7 @@ pub record Planned (lows highs : List ℕ) (total : ℕ) (limits : Limits) (i sh
   pub high : share ≤ getD highs i 0
   pub passes : taken lows highs total limits i share ≡ true
 
--- strictly between two values
-pub record Amid (outer inner middle : ℕ) : Type 0 where
-  pub rising : outer < inner → (outer < middle) × (middle < inner)
-  pub falling : inner < outer → (inner < middle) × (middle < outer)
-
--- halfway is
-pub halfway : {outer inner : ℕ} → 1 < apart outer inner → Amid outer inner ((outer + inner) / 2)
-halfway far = record { rising = λ less. (omega arith, omega arith); falling = λ more. (omega arith, omega arith) }
-
--- it is nearer to both than they are to each other, and no greater than both
+-- a value strictly between two is nearer to both than they are to each other, and no greater than both
 pub amid-nearer : {outer inner middle most : ℕ} → 1 < apart outer inner → outer ≤ most → inner ≤ most → Amid outer inner middle
     → (apart outer middle < apart outer inner) × (apart middle inner < apart outer inner) × (middle ≤ most)
 amid-nearer {outer} {inner} far small-outer small-inner amid =
@@ -84,50 +71,21 @@ amid-nearer {outer} {inner} far small-outer small-inner amid =
       | no more ↦ let (after, before) = amid .falling (omega arith) in (omega arith, omega arith, omega arith)
     ]
 
--- from one value to another, both ends counted
-pub record Between (outer inner v : ℕ) : Type 0 where
-  pub rising : outer < inner → (outer ≤ v) × (v ≤ inner)
-  pub falling : inner < outer → (inner ≤ v) × (v ≤ outer)
-
-pub amid-between : {outer inner v : ℕ} → Amid outer inner v → Between outer inner v
-amid-between amid = record {
-  rising = λ less. let (a, b) = amid .rising less in (omega arith, omega arith);
-  falling = λ more. let (a, b) = amid .falling more in (omega arith, omega arith);
-}
-
-module _ (test : ℕ → Bool) (outside inside outer inner v : ℕ) (held : Straddle test outside inside outer inner) (between : Between outer inner v) where
+module _ (test : ℕ → Bool) (outside inside outer inner v : ℕ) (held : Straddle test outside inside outer inner) (amid : Amid outer inner v) where
   -- a value between that passes takes inner's place
   pub straddle-in : test v ≡ true → Straddle test outside inside outer v
-  straddle-in passes =
-      let other : v ≢ outer = (λ same. clash (ap test (sym same) ∙ passes) (held .fails)) in
-      record {
-        fails = held .fails;
-        passes = passes;
-        rising = λ h. let (a, b, c) = held .rising h in omega (arith, between .rising b, other);
-        falling = λ h. let (a, b, c) = held .falling h in omega (arith, between .falling b, other);
-      }
+  straddle-in passes = record {
+    fails = held .fails;
+    passes = passes;
+    rising = λ h. let (a, b, c) = held .rising h in omega (arith, amid .rising b);
+    falling = λ h. let (a, b, c) = held .falling h in omega (arith, amid .falling b);
+  }
 
   -- and one that fails takes outer's
   pub straddle-out : test v ≡ false → Straddle test outside inside v inner
-  straddle-out fails =
-      let other : v ≢ inner = (λ same. clash (held .passes) (ap test (sym same) ∙ fails)) in
-      record {
-        fails = fails;
-        passes = held .passes;
-        rising = λ h. let (a, b, c) = held .rising h in omega (arith, between .rising b, other);
-        falling = λ h. let (a, b, c) = held .falling h in omega (arith, between .falling b, other);
-      }
-
--- an edge between two values that straddle is one between those outside them
-pub edge-outward : {test : ℕ → Bool} {outside inside outer inner r : ℕ} → Straddle test outside inside outer inner
-    → Edge test outer inner r → Edge test outside inside r
-edge-outward held edge = record {
-  outer = edge .outer;
-  straddle = record {
-    fails = edge .straddle .fails;
-    passes = edge .straddle .passes;
-    rising = λ h. let (a, b, c) = held .rising h in omega (arith, edge .straddle .rising b);
-    falling = λ h. let (a, b, c) = held .falling h in omega (arith, edge .straddle .falling b);
-  };
-  near = edge .near;
-}
+  straddle-out fails = record {
+    fails = fails;
+    passes = held .passes;
+    rising = λ h. let (a, b, c) = held .rising h in omega (arith, amid .rising b);
+    falling = λ h. let (a, b, c) = held .falling h in omega (arith, amid .falling b);
+  }

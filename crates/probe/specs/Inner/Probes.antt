@@ -39,9 +39,6 @@ pub record InReach (table : List ℕ) (last low high v total : ℕ) : Type 0 whe
   pub greatest : total ≤ pinnedTotal (rowAt table last) low high v
 
 -- the same for a value of member i of a group, whose table has twice as many rows after the first
-abbrev pub RowOf : List ℕ → List ℕ → List ℕ → ℕ → ℕ → ℕ → ℕ → Type 0
-RowOf lows highs table total i v k = LastWithin table (2 * length lows) (getD lows i 0) (getD highs i 0) v total k
-
 abbrev pub MadeUp : List ℕ → List ℕ → List ℕ → ℕ → ℕ → ℕ → Type 0
 MadeUp lows highs table total i v = InReach table (2 * length lows) (getD lows i 0) (getD highs i 0) v total
 

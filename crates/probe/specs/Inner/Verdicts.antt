@@ -10,7 +10,7 @@ use Rattle.model.specs.declared.Figures.{Figures}
 use Rattle.probe.specs.declared.probing.Trial.{Trial}
 use Rattle.probe.specs.Inner.Tables.{SoundWithTotal, Breakpoints}
 use Rattle.probe.specs.Inner.Pinned.{Pin}
-use Rattle.probe.specs.Inner.Probes.{RowOf, MadeUp}
+use Rattle.probe.specs.Inner.Probes.{MadeUp}
 
 -- some ranges have v in place of what a member with this low and high has
 pub record Asked (lows highs : List ℕ) (low high v : ℕ) : Type 0 where
@@ -22,11 +22,10 @@ pub record Asked (lows highs : List ℕ) (low high v : ℕ) : Type 0 where
 pub record PinnedFigures (lows highs : List ℕ) (low high v total : ℕ) (figures : Figures) : Type 0 where
   pub is : {lows′ highs′ : List ℕ} → Pin lows highs low high v lows′ highs′ → figures ≡ figuresOf (length lows′) total (levelled lows′ highs′ total)
 
--- a value that the other members can make up for, with its row
+-- a value that the other members can make up for
 pub record Triable (lows highs table : List ℕ) (total : ℕ) (trial : Trial) : Type 0 where
   pub sound : SoundWithTotal lows highs total
   pub held : Breakpoints lows highs total table
   pub here : trial .member < length lows
   pub small : trial .value ≤ greatestShare
   pub reach : MadeUp lows highs table total (trial .member) (trial .value)
-  pub found : RowOf lows highs table total (trial .member) (trial .value) (trial .row)

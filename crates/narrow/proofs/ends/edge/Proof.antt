@@ -1,39 +1,41 @@
--- The search keeps a value that no plan gives outside and one that some plan gives inside, both of one row. Assumes nothing.
+-- The search keeps a value that no plan gives outside and one that some plan gives inside, and comes nearer. Assumes nothing.
 use borrow.Author.Needs.{needs}
 use native.Mathlib.Omega.{arith}
 use mathlib.Core.Bool.{Bool}
 use mathlib.Core.Path.{sym, _∙_}
-use Prim.Native.Nat.{ℕ, _+_, _/_, _≤_, _<_}
+use Prim.Native.Nat.{ℕ, _≤_, _<_}
 use Rattle.model.specs.Shares.{greatestShare}
 use Rattle.model.specs.Figures.{apart}
 use Rattle.model.specs.Plans.{taken}
-use Rattle.narrow.specs.Inner.Edges.{Straddle}
-use Rattle.narrow.specs.Inner.Flanks.{OneRow}
-use Rattle.narrow.specs.Laws.Edges.{Amid, Between, straddle-start, straddle-in, straddle-out, halfway, amid-nearer, amid-between}
-use Rattle.narrow.specs.Laws.Flanks.{row-triable, row-in, row-out}
+use Rattle.narrow.specs.Inner.Edges.{Straddle, Search}
+use Rattle.narrow.specs.Laws.Edges.{straddle-start, straddle-in, straddle-out, amid-nearer}
+use Rattle.narrow.specs.Laws.Searches.{search-triable, search-in, search-out}
 use Rattle.narrow.proofs.ends.edge.Statement.{statement}
 use Rattle.narrow.proofs.ends.edge.Tie as tie
 
 abbrev Inv-loop : tie.InvT-loop
-Inv-loop lows highs table question member row outer₀ inner₀ outer inner =
+Inv-loop lows highs table question member outer₀ inner₀ inward₀ row₀ tries₀ outer inner inward row tries =
     Straddle (taken lows highs (question .total) (question .limits) member) outer₀ inner₀ outer inner
-    × OneRow lows highs table (question .total) (question .limits) (record { member = member; outer = outer; inner = inner; row = row })
+    × Search lows highs table (question .total) (question .limits) member outer inner
 
 abbrev μ-loop : tie.MeasureT-loop
-μ-loop lows highs table question member row outer₀ inner₀ outer inner = apart outer inner
+μ-loop lows highs table question member outer₀ inner₀ inward₀ row₀ tries₀ outer inner inward row tries = apart outer inner
 
 loop-holds : tie.Need-loop-holds Inv-loop μ-loop
 loop-holds c =
     let p = c .before .before .before .pre in
-    (straddle-start _ _ _ (p .search .fails) (p .search .way .passes), p)
+    (straddle-start _ _ _ (p .fails) (p .way .passes), p)
 
 apart-requires : tie.Need-apart-requires Inv-loop μ-loop
 apart-requires c κs = search needs
 
--- the value halfway
-module _ (c : tie.Then1 Inv-loop μ-loop) where
+next-value-requires : tie.Need-next-value-requires Inv-loop μ-loop
+next-value-requires c κs = search needs
+
+-- the value tried
+module _ (c : tie.After-next-value Inv-loop μ-loop) where
   abbrev turn : tie.At-loop Inv-loop μ-loop
-  turn = c .before .before
+  turn = c .before .before .before
 
   abbrev start : tie.Start Inv-loop μ-loop
   start = turn .before .before .before .before
@@ -41,49 +43,41 @@ module _ (c : tie.Then1 Inv-loop μ-loop) where
   abbrev test : ℕ → Bool
   test = taken (start .args .lows .now) (start .args .highs .now) (start .args .question .total) (start .args .question .limits) (start .args .gap .member)
 
-  abbrev middle : ℕ
-  middle = (turn .loop .outer + turn .loop .inner) / 2
+  abbrev value : ℕ
+  value = c .next-value .result
 
-  amid : Amid (turn .loop .outer) (turn .loop .inner) middle
-  amid = halfway (omega arith)
-
-  between : Between (turn .loop .outer) (turn .loop .inner) middle
-  between = amid-between amid
-
-  nearer : (apart (turn .loop .outer) middle < apart (turn .loop .outer) (turn .loop .inner))
-      × (apart middle (turn .loop .inner) < apart (turn .loop .outer) (turn .loop .inner))
-      × (middle ≤ greatestShare)
+  nearer : (apart (turn .loop .outer) value < apart (turn .loop .outer) (turn .loop .inner))
+      × (apart value (turn .loop .inner) < apart (turn .loop .outer) (turn .loop .inner))
+      × (value ≤ greatestShare)
   nearer =
-      let way = turn .loop .inv .1 .search .way in
-      amid-nearer (omega arith) (way .small) (way .share-small) amid
+      let way = turn .loop .inv .1 .way in
+      amid-nearer (omega arith) (way .small) (way .share-small) (c .next-value .ensures)
 
-add-value : tie.Need-add-value Inv-loop μ-loop
-add-value c =
-    let way = turn c .loop .inv .1 .search .way in
-    omega (arith, way .small, way .share-small)
+try-value-requires : tie.Need-try-value-requires Inv-loop μ-loop
+try-value-requires c κs = search-triable (turn c .loop .inv .1) (c .next-value .ensures) (nearer c .2) _
 
-taken-at-requires : tie.Need-taken-at-requires Inv-loop μ-loop
-taken-at-requires c κs = row-triable (turn c .loop .inv .1) (between c) (nearer c .2)
+fewer-requires : tie.Need-fewer-requires Inv-loop μ-loop
+fewer-requires c κs = search needs
 
 loop-less : tie.Need-loop-less Inv-loop μ-loop
-loop-less c = nearer (c .before .before) .0
+loop-less c = nearer (c .before .before .before) .0
 
 loop-again : tie.Need-loop-again Inv-loop μ-loop
 loop-again c =
-    let a = c .before .before in
-    let inv = turn a .loop .inv in
-    let passes = sym (c .before .taken-at .ensures) ∙ c .if2 .taken in
-    (straddle-in (test a) _ _ _ _ _ (inv .0) (between a) passes, row-in (inv .1) (between a) (nearer a .2) passes)
+    let v = c .before .before .before in
+    let inv = turn v .loop .inv in
+    let passes = sym (c .before .before .try-value .ensures) ∙ c .if2 .taken in
+    (straddle-in (test v) _ _ _ _ _ (inv .0) (v .next-value .ensures) passes, search-in (inv .1) (v .next-value .ensures) (nearer v .2) passes)
 
 loop-less-2 : tie.Need-loop-less-2 Inv-loop μ-loop
-loop-less-2 c = nearer (c .before .before) .1
+loop-less-2 c = nearer (c .before .before .before) .1
 
 loop-again-2 : tie.Need-loop-again-2 Inv-loop μ-loop
 loop-again-2 c =
-    let a = c .before .before in
-    let inv = turn a .loop .inv in
-    let fails = sym (c .before .taken-at .ensures) ∙ c .if2 .left in
-    (straddle-out (test a) _ _ _ _ _ (inv .0) (between a) fails, row-out (inv .1) (between a) (nearer a .2) fails)
+    let v = c .before .before .before in
+    let inv = turn v .loop .inv in
+    let fails = sym (c .before .before .try-value .ensures) ∙ c .if2 .left in
+    (straddle-out (test v) _ _ _ _ _ (inv .0) (v .next-value .ensures) fails, search-out (inv .1) (v .next-value .ensures) (nearer v .2) fails)
 
 returns : tie.Need-returns Inv-loop μ-loop
 returns c =
@@ -93,4 +87,4 @@ returns c =
 pub edge-spec : {M : Type 1} → statement M
 edge-spec =
     tie.close
-    (tie.spec Inv-loop μ-loop loop-holds apart-requires add-value taken-at-requires loop-less loop-again loop-less-2 loop-again-2 returns)
+    (tie.spec Inv-loop μ-loop loop-holds apart-requires next-value-requires try-value-requires fewer-requires loop-less loop-again loop-less-2 loop-again-2 returns)
