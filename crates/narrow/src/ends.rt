@@ -1,6 +1,5 @@
 // The ends of a member's range: how far from its share plans give it values.
 use model::Question;
-use model::Share;
 use model::levels::clamp;
 use model::numbers::apart;
 use probe::pinned::into_reach;
@@ -55,8 +54,7 @@ fn fewer(tries: u64) -> u64 {
     tries - 1
 }
 
-// The value nearest to the outer one of a gap that some plan gives the member. Newton's steps do not pass it, so that after
-// a value that is taken the one next to it is tried.
+// The value nearest to the outer one of a gap that some plan gives the member.
 fn edge(lows: &[u64], highs: &[u64], table: &[u64], question: Question, gap: Gap) -> u64
     requires { ⌜ Search (now lows) (now highs) (now table) (question .total) (question .limits) (gap .member) (gap .outer) (gap .inner) ⌝ }
     ensures { λ r. ⌜ Edge (taken (now (lows .entry)) (now (highs .entry)) (question .total) (question .limits) (gap .member)) (gap .outer) (gap .inner) r ⌝ }
@@ -70,14 +68,13 @@ fn edge(lows: &[u64], highs: &[u64], table: &[u64], question: Question, gap: Gap
     while 1 < apart(outer, inner) {
         let value = next_value(outer, inner, inward, tries);
         let tried = try_value(lows, highs, table, question, Trial { member, value, row });
+        inward = tried.inward;
         row = tried.row;
         tries = fewer(tries);
         if tried.taken {
             inner = value;
-            inward = Share::GREATEST;
         } else {
             outer = value;
-            inward = tried.inward;
         }
     }
     inner

@@ -8,6 +8,7 @@ use crate::pinned::reach_from;
 use crate::rows::read_row;
 use model::Figures;
 use model::Question;
+use model::Share;
 use model::Spread;
 use model::levels::clamp;
 use model::numbers::apart;
@@ -66,15 +67,16 @@ pub struct Trial {
     pub row: usize,
 }
 
-// What a trial tells: whether the group with the member pinned to the value has a plan, how far inward the next value to
-// try is where it has none, and the row found.
+// What a trial tells: whether the group with the member pinned to the value has a plan, how far inward of the last value
+// without one to look next, and the row found.
 pub struct Tried {
     pub taken: bool,
     pub inward: u64,
     pub row: usize,
 }
 
-// Tries a value.
+// Tries a value. Newton's steps do not pass the last value that is taken, so that after a value with a plan the one next to
+// it comes: as far inward as can be.
 pub fn try_value(
     lows: &[u64],
     highs: &[u64],
@@ -93,10 +95,20 @@ pub fn try_value(
     let count = lows.len();
     let row = last_within(table, 2 * count, low, high, v, total, trial.row);
     let pinned = pinned_figures(lows, highs, table, row, low, high, v, total);
+    if question.limits.met(pinned.figures) {
+        return Tried {
+            taken: true,
+            inward: Share::GREATEST,
+            row,
+        };
+    }
     let distance = apart(v, pinned.level);
     let inward = newton_step(count as u64, question.limits, pinned.figures, distance);
-    let taken = question.limits.met(pinned.figures);
-    Tried { taken, inward, row }
+    Tried {
+        taken: false,
+        inward,
+        row,
+    }
 }
 
 // A level with the copies left over there, and the row below it.

@@ -2,9 +2,10 @@
 use borrow.Author.Needs.{needs}
 use native.Mathlib.Omega.{arith}
 use mathlib.Core.List.{List}
-use mathlib.Core.Path.{_∙_}
+use mathlib.Core.Path.{_≡_, sym, _∙_}
 use Prim.Native.Nat.{ℕ}
 use lib.ListN.{getD, set}
+use Rattle.model.specs.Plans.{taken}
 use Rattle.probe.specs.Inner.Pinned.{Pin}
 use Rattle.probe.specs.Laws.Pinned.{pinned}
 use Rattle.probe.specs.Laws.Probes.{probeable}
@@ -58,23 +59,32 @@ pinned-figures-requires c κs =
     let s = start c in
     (s .pre .sound, (s .pre .held, (record { pinnedLows = set (lows s) (i s) (v s); pinnedHighs = set (highs s) (i s) (v s); pin = pin s }, (c .last-within .ensures, s .pre .reach .greatest))))
 
+met-requires : tie.Need-met-requires
+met-requires c κs = search needs
+
+-- the limits are met exactly where the pinned group has a plan
+is-taken : (c : tie.After-met) → let s = start (c .before .before) in
+    c .met .result ≡ taken (lows s) (highs s) (s .args .question .total) (s .args .question .limits) (i s) (v s)
+is-taken c =
+    let s = start (c .before .before) in
+    c .met .ensures
+    ∙ decided (s .pre .sound) (pin s) (s .pre .held) (s .args .question .limits) (s .pre .reach .least) (s .pre .reach .greatest) (c .before .pinned-figures .ensures .is (pin s))
+
+returns : tie.Need-returns
+returns c = sym (c .if1 .taken) ∙ is-taken (c .before)
+
 apart-requires : tie.Need-apart-requires
 apart-requires c κs = search needs
 
 newton-step-requires : tie.Need-newton-step-requires
 newton-step-requires c κs =
-    let s = start (c .before .before) in
+    let s = start (c .before .before .before .before) in
     (omega (arith, s .pre .here), s .pre .sound .few)
 
-met-requires : tie.Need-met-requires
-met-requires c κs = search needs
-
-returns : tie.Need-returns
-returns c =
-    let f = c .before .before .before in
-    let s = start (f .before) in
-    c .met .ensures
-    ∙ decided (s .pre .sound) (pin s) (s .pre .held) (s .args .question .limits) (s .pre .reach .least) (s .pre .reach .greatest) (f .pinned-figures .ensures .is (pin s))
+returns-2 : tie.Need-returns-2
+returns-2 c =
+    let e = c .before .before in
+    sym (e .if1 .left) ∙ is-taken (e .before)
 
 pub try-value-spec : {M : Type 1} → statement M
 try-value-spec =
@@ -87,7 +97,8 @@ try-value-spec =
     mul-last-within
     last-within-requires
     pinned-figures-requires
+    met-requires
+    returns
     apart-requires
     newton-step-requires
-    met-requires
-    returns)
+    returns-2)
