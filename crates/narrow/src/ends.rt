@@ -2,8 +2,8 @@
 use model::Question;
 use model::levels::clamp;
 use model::numbers::apart;
+use probe::pinned::Trial;
 use probe::pinned::into_reach;
-use probe::probing::Trial;
 use probe::probing::try_value;
 ghost use Prim.Native.Nat.{_<_};
 ghost use Rattle.model.specs.Figures.{apart};
@@ -60,6 +60,8 @@ fn edge(lows: &[u64], highs: &[u64], table: &[u64], question: Question, gap: Gap
     ensures { λ r. ⌜ Edge (taken (now (lows .entry)) (now (highs .entry)) (question .total) (question .limits) (gap .member)) (gap .outer) (gap .inner) r ⌝ }
 {
     let member = gap.member;
+    let low = lows[member];
+    let high = highs[member];
     let mut outer = gap.outer;
     let mut inner = gap.inner;
     let mut inward = gap.inward;
@@ -67,7 +69,13 @@ fn edge(lows: &[u64], highs: &[u64], table: &[u64], question: Question, gap: Gap
     let mut tries = NEWTON_STEPS;
     while 1 < apart(outer, inner) {
         let value = next_value(outer, inner, inward, tries);
-        let tried = try_value(lows, highs, table, question, Trial { member, value, row });
+        let trial = Trial {
+            low,
+            high,
+            value,
+            row,
+        };
+        let tried = try_value(lows, highs, table, question, trial);
         inward = tried.inward;
         row = tried.row;
         tries = fewer(tries);
@@ -80,43 +88,54 @@ fn edge(lows: &[u64], highs: &[u64], table: &[u64], question: Question, gap: Gap
     inner
 }
 
-// How far from a share, which some plan gives its member, to an end of the member's range plans give it values; the
-// share's row is one to look at first.
+// A share that some plan gives a member, an end of the member's range, and a row to look at first.
+pub(crate) struct Way {
+    pub(crate) member: usize,
+    pub(crate) share: u64,
+    pub(crate) end: u64,
+    pub(crate) row: usize,
+}
+
+// How far from the share to the end plans give the member values.
 pub(crate) fn farthest_taken(
     lows: &[u64],
     highs: &[u64],
     table: &[u64],
     question: Question,
-    share: Trial,
-    end: u64,
+    way: Way,
 ) -> u64
-    requires { ⌜ Approach (now lows) (now highs) (now table) (question .total) (question .limits) (share .member) end (share .value) ⌝ }
-    ensures { λ r. ⌜ Reaches (taken (now (lows .entry)) (now (highs .entry)) (question .total) (question .limits) (share .member)) end (share .value) r ⌝ }
+    requires { ⌜ Approach (now lows) (now highs) (now table) (question .total) (question .limits) (way .member) (way .end) (way .share) ⌝ }
+    ensures { λ r. ⌜ Reaches (taken (now (lows .entry)) (now (highs .entry)) (question .total) (question .limits) (way .member)) (way .end) (way .share) r ⌝ }
 {
     // Some plan gives the share.
-    if end == share.value {
-        return end;
+    if way.end == way.share {
+        return way.end;
     }
-    let member = share.member;
-    let inner = share.value;
+    let member = way.member;
+    let low = lows[member];
+    let high = highs[member];
     let last = 2 * lows.len();
-    let value = into_reach(
+    let value = into_reach(table, last, low, high, way.end, question.total);
+    let row = way.row;
+    let tried = try_value(
+        lows,
+        highs,
         table,
-        last,
-        lows[member],
-        highs[member],
-        end,
-        question.total,
+        question,
+        Trial {
+            low,
+            high,
+            value,
+            row,
+        },
     );
-    let row = share.row;
-    let tried = try_value(lows, highs, table, question, Trial { member, value, row });
     if tried.taken {
         return value;
     }
     let gap = Gap {
         member,
         outer: value,
-        inner,
+        inner: way.share,
         inward: tried.inward,
         row: tried.row,
     };

@@ -1,4 +1,5 @@
 // Narrowing a group's ranges: a value stays exactly if the group pinned to it has a plan.
+use crate::ends::Way;
 use crate::ends::farthest_taken;
 use model::MOST_UNITS;
 use model::Question;
@@ -10,7 +11,6 @@ use model::running::pack;
 use model::running::unpack;
 use model::shares::has_shares;
 use probe::build::build;
-use probe::probing::Trial;
 use probe::probing::has_plan;
 use probe::probing::level_on;
 ghost use mathlib.Core.Path.{_≡_};
@@ -51,11 +51,22 @@ fn narrow_on(
         let low = lows[member];
         let high = highs[member];
         let more = extra(low, high, v, left);
-        let value = clamp(low, high, v) + more;
-        let share = Trial { member, value, row };
+        let share = clamp(low, high, v) + more;
         left -= more;
-        starts[member] = farthest_taken(lows, highs, table, question, share, low);
-        stops[member] = farthest_taken(lows, highs, table, question, share, high);
+        let down = Way {
+            member,
+            share,
+            end: low,
+            row,
+        };
+        starts[member] = farthest_taken(lows, highs, table, question, down);
+        let up = Way {
+            member,
+            share,
+            end: high,
+            row,
+        };
+        stops[member] = farthest_taken(lows, highs, table, question, up);
         member += 1;
     }
     Turn::Narrowed

@@ -48,9 +48,9 @@ fn larger(a: u64, b: u64) -> u64 {
 // The step from a value at some distance from the level of the other members. Both figures are convex in the value: one
 // value inward takes at most 2 n off the deviation, and at most 2 n times the distance off the spread.
 pub fn newton_step(count: u64, limits: Limits, figures: Figures, distance: u64) -> u64
-    requires { ⌜ (0 < count) × (count ≤ mostUnits) ⌝ }
+    requires { ⌜ count ≤ mostUnits ⌝ }
 {
-    let each = 2 * count;
+    let each = at_least_one(2 * count);
     let deviation = limits.deviation;
     let spread = limits.spread;
     let by_deviation = steps(excess(deviation, figures.deviation.0), each);

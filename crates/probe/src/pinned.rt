@@ -10,6 +10,15 @@ ghost use Rattle.model.specs.Levels.{clamp, growth};
 ghost use Rattle.probe.specs.Inner.Rows.{rowAt};
 ghost use Rattle.probe.specs.Inner.Probes.{Pinnable, Probeable, LastWithin, IntoReach, Divided, pinnedTotal};
 
+// A value to try for a member with this low and high, and a row to look at first. 0 for a member with the range 0 to 0
+// changes no sum: the group itself.
+pub struct Trial {
+    pub low: u64,
+    pub high: u64,
+    pub value: u64,
+    pub row: usize,
+}
+
 // A level, how many members grew up to it from the row below, and the copies left over there.
 pub struct Reach {
     pub growing: u64,
@@ -55,28 +64,20 @@ fn doubled(step: usize) -> usize
     step
 }
 
-// The last row with the pinned group's T at most the total, searched from near by growing steps between k, which has it, and top, which has not or is past the last.
-pub fn last_within(
-    table: &[u64],
-    last: usize,
-    low: u64,
-    high: u64,
-    v: u64,
-    total: u64,
-    near: usize,
-) -> usize
-    requires { ⌜ Probeable (now table) last low high v ⌝ }
-    requires { ⌜ pinnedTotal (rowAt (now table) 0) low high v ≤ total ⌝ }
-    ensures { λ r. ⌜ LastWithin (now (table .entry)) last low high v total r ⌝ }
+// The last row with the pinned group's T at most the total, searched from the trial's row by growing steps between k, which has it, and top, which has not or is past the last.
+pub fn last_within(table: &[u64], last: usize, trial: Trial, total: u64) -> usize
+    requires { ⌜ Probeable (now table) last (trial .low) (trial .high) (trial .value) ⌝ }
+    requires { ⌜ pinnedTotal (rowAt (now table) 0) (trial .low) (trial .high) (trial .value) ≤ total ⌝ }
+    ensures { λ r. ⌜ LastWithin (now (table .entry)) last (trial .low) (trial .high) (trial .value) total r ⌝ }
 {
     let mut k: usize = 0;
     let mut top: usize = last + 1;
     let mut step: usize = 1;
     while 1 < top - k {
-        let middle = row_between(k, top, near, step);
+        let middle = row_between(k, top, trial.row, step);
         let row = read_row(table, middle);
         step = doubled(step);
-        if pinned_total(row, low, high, v) <= total {
+        if pinned_total(row, trial.low, trial.high, trial.value) <= total {
             k = middle;
         } else {
             top = middle;

@@ -2,6 +2,7 @@
 use crate::figures::pinned_deviation;
 use crate::figures::pinned_squares;
 use crate::newton::newton_step;
+use crate::pinned::Trial;
 use crate::pinned::last_within;
 use crate::pinned::pinned_total;
 use crate::pinned::reach_from;
@@ -13,13 +14,12 @@ use model::Spread;
 use model::levels::clamp;
 use model::numbers::apart;
 ghost use mathlib.Core.Path.{_≡_};
-ghost use Prim.Native.Nat.{_*_, _≤_};
+ghost use Prim.Native.Nat.{_*_};
 ghost use lib.ListN.{length};
-ghost use Rattle.model.specs.Plans.{hasPlan, taken};
-ghost use Rattle.probe.specs.Inner.Rows.{rowAt};
+ghost use Rattle.model.specs.Plans.{hasPlan};
 ghost use Rattle.probe.specs.Inner.Tables.{SoundWithTotal, Breakpoints};
-ghost use Rattle.probe.specs.Inner.Probes.{LastWithin, InReach, LevelledOn, pinnedTotal};
-ghost use Rattle.probe.specs.Inner.Verdicts.{Asked, PinnedFigures, Triable};
+ghost use Rattle.probe.specs.Inner.Probes.{LastWithin, InReach, LevelledOn};
+ghost use Rattle.probe.specs.Inner.Verdicts.{PinnedFigures, Triable, Decides};
 
 // The figures of a pinned group's levelled shares, and the level of the others there.
 struct Pinned {
@@ -28,28 +28,17 @@ struct Pinned {
 }
 
 // The figures of the pinned group's levelled shares, from the row below its level.
-fn pinned_figures(
-    lows: &[u64],
-    highs: &[u64],
-    table: &[u64],
-    k: usize,
-    low: u64,
-    high: u64,
-    v: u64,
-    total: u64,
-) -> Pinned
-    requires { ⌜ SoundWithTotal (now lows) (now highs) total ⌝ }
-    requires { ⌜ Breakpoints (now lows) (now highs) total (now table) ⌝ }
-    requires { ⌜ Asked (now lows) (now highs) low high v ⌝ }
-    requires { ⌜ LastWithin (now table) (2 * length (now lows)) low high v total k ⌝ }
-    requires { ⌜ total ≤ pinnedTotal (rowAt (now table) (2 * length (now lows))) low high v ⌝ }
-    ensures { λ r. ⌜ PinnedFigures (now (lows .entry)) (now (highs .entry)) low high v total (r .figures) ⌝ }
+fn pinned_figures(lows: &[u64], highs: &[u64], table: &[u64], total: u64, trial: Trial) -> Pinned
+    requires { ⌜ Triable (now lows) (now highs) (now table) total (trial .low) (trial .high) (trial .value) ⌝ }
+    requires { ⌜ LastWithin (now table) (2 * length (now lows)) (trial .low) (trial .high) (trial .value) total (trial .row) ⌝ }
+    ensures { λ r. ⌜ PinnedFigures (now (lows .entry)) (now (highs .entry)) (trial .low) (trial .high) (trial .value) total (r .figures) ⌝ }
 {
     let count = lows.len() as u64;
-    let row = read_row(table, k);
-    let left = total - pinned_total(row, low, high, v);
-    let reach = reach_from(row, low, high, left);
-    let own = clamp(low, high, row.mark);
+    let v = trial.value;
+    let row = read_row(table, trial.row);
+    let left = total - pinned_total(row, trial.low, trial.high, v);
+    let reach = reach_from(row, trial.low, trial.high, left);
+    let own = clamp(trial.low, trial.high, row.mark);
     let deviation = pinned_deviation(count, total, row, own, v, reach);
     let squares = pinned_squares(row, own, v, reach);
     let figures = Figures {
@@ -58,13 +47,6 @@ fn pinned_figures(
     };
     let level = reach.level;
     Pinned { figures, level }
-}
-
-// A value to try for a member, and a row to look at first.
-pub struct Trial {
-    pub member: usize,
-    pub value: u64,
-    pub row: usize,
 }
 
 // What a trial tells: whether the group with the member pinned to the value has a plan, how far inward of the last value
@@ -84,17 +66,22 @@ pub fn try_value(
     question: Question,
     trial: Trial,
 ) -> Tried
-    requires { ⌜ Triable (now lows) (now highs) (now table) (question .total) trial ⌝ }
-    ensures { λ r. ⌜ r .taken ≡ taken (now (lows .entry)) (now (highs .entry)) (question .total) (question .limits) (trial .member) (trial .value) ⌝ }
+    requires { ⌜ Triable (now lows) (now highs) (now table) (question .total) (trial .low) (trial .high) (trial .value) ⌝ }
+    ensures { λ r. ⌜ Decides (now (lows .entry)) (now (highs .entry)) (question .total) (question .limits) (trial .low) (trial .high) (trial .value) (r .taken) ⌝ }
 {
-    let i = trial.member;
-    let v = trial.value;
-    let low = lows[i];
-    let high = highs[i];
     let total = question.total;
     let count = lows.len();
-    let row = last_within(table, 2 * count, low, high, v, total, trial.row);
-    let pinned = pinned_figures(lows, highs, table, row, low, high, v, total);
+    let row = last_within(table, 2 * count, trial, total);
+    let low = trial.low;
+    let high = trial.high;
+    let value = trial.value;
+    let found = Trial {
+        low,
+        high,
+        value,
+        row,
+    };
+    let pinned = pinned_figures(lows, highs, table, total, found);
     if question.limits.met(pinned.figures) {
         return Tried {
             taken: true,
@@ -102,7 +89,7 @@ pub fn try_value(
             row,
         };
     }
-    let distance = apart(v, pinned.level);
+    let distance = apart(value, pinned.level);
     let inward = newton_step(count as u64, question.limits, pinned.figures, distance);
     Tried {
         taken: false,
@@ -126,7 +113,13 @@ pub fn level_on(lows: &[u64], highs: &[u64], table: &[u64], total: u64) -> Level
     ensures { λ r. ⌜ LevelledOn (now (lows .entry)) (now (highs .entry)) (now (table .entry)) total r ⌝ }
 {
     let count = lows.len();
-    let k = last_within(table, 2 * count, 0, 0, 0, total, count);
+    let whole = Trial {
+        low: 0,
+        high: 0,
+        value: 0,
+        row: count,
+    };
+    let k = last_within(table, 2 * count, whole, total);
     let row = read_row(table, k);
     let left = total - pinned_total(row, 0, 0, 0);
     let reach = reach_from(row, 0, 0, left);
@@ -137,15 +130,19 @@ pub fn level_on(lows: &[u64], highs: &[u64], table: &[u64], total: u64) -> Level
     }
 }
 
-// Whether the group has a plan, from the row below its level.
+// Whether the group has a plan; the row is one to look at first.
 pub fn has_plan(lows: &[u64], highs: &[u64], table: &[u64], question: Question, row: usize) -> bool
     requires { ⌜ SoundWithTotal (now lows) (now highs) (question .total) ⌝ }
     requires { ⌜ Breakpoints (now lows) (now highs) (question .total) (now table) ⌝ }
     requires { ⌜ InReach (now table) (2 * length (now lows)) 0 0 0 (question .total) ⌝ }
-    requires { ⌜ LastWithin (now table) (2 * length (now lows)) 0 0 0 (question .total) row ⌝ }
     ensures { λ r. ⌜ r ≡ hasPlan (now (lows .entry)) (now (highs .entry)) (question .total) (question .limits) ⌝ }
 {
-    let total = question.total;
-    let pinned = pinned_figures(lows, highs, table, row, 0, 0, 0, total);
-    question.limits.met(pinned.figures)
+    let whole = Trial {
+        low: 0,
+        high: 0,
+        value: 0,
+        row,
+    };
+    let tried = try_value(lows, highs, table, question, whole);
+    tried.taken
 }

@@ -5,13 +5,14 @@ use mathlib.Core.List.{List}
 use mathlib.Core.Path.{_≡_}
 use native.Mathlib.Decide.{decLt}
 use native.Mathlib.Omega.{arith, by-contra}
-use lib.ListN.{length, getD}
+use lib.ListN.{length, getD, set}
 use Rattle.model.specs.Shares.{greatestShare}
 use Rattle.model.specs.Plans.{taken}
 use Rattle.model.specs.declared.Limits.{Limits}
 use Rattle.probe.specs.Inner.Rows.{rowAt}
 use Rattle.probe.specs.Laws.Pinned.{pinned}
 use Rattle.probe.specs.Inner.Probes.{pinnedTotal, Probeable, InReach, IntoReach}
+use Rattle.probe.specs.Inner.Verdicts.{Triable, Decides}
 use Rattle.probe.specs.Laws.Probes.{probeable}
 use Rattle.probe.specs.Laws.Reaching.{short-fails, long-fails, taken-reach}
 use Rattle.narrow.specs.Inner.Edges.{Approach}
@@ -40,6 +41,19 @@ module _ {lows highs table : List ℕ} {total : ℕ} {limits : Limits} {i end sh
   module _ (w : ℕ) (small : w ≤ greatestShare) where
     pub probes : Probeable table last low high w
     probes = probeable (way .tabled .sound) (way .tabled .held) (pinned (way .tabled .sound .ranges) i w (way .here) small)
+
+    -- where the others can make up for it, it can be tried
+    pub triable : InReach table last low high w total → Triable lows highs table total low high w
+    triable reach = record {
+      sound = way .tabled .sound;
+      held = way .tabled .held;
+      asked = record { pinnedLows = set lows i w; pinnedHighs = set highs i w; pin = pinned (way .tabled .sound .ranges) i w (way .here) small };
+      reach = reach;
+    }
+
+    -- and what a trial tells is whether it is taken
+    pub told : {answer : Bool} → Decides lows highs total limits low high w answer → answer ≡ test w
+    told decides = decides .is (pinned (way .tabled .sound .ranges) i w (way .here) small)
 
   -- the share is in reach
   pub share-reach : InReach table last low high share total

@@ -6,6 +6,7 @@ use mathlib.Core.Logic.{_≢_}
 use mathlib.Core.Path.{_≡_, sym, ap, _∙_}
 use native.Mathlib.Decide.{decLt}
 use native.Mathlib.Omega.{arith}
+use lib.ListN.{getD}
 use Rattle.model.specs.Shares.{greatestShare}
 use Rattle.model.specs.Plans.{taken}
 use Rattle.model.specs.Laws.Tests.{clash}
@@ -14,7 +15,7 @@ use Rattle.probe.specs.Inner.Probes.{MadeUp}
 use Rattle.probe.specs.Inner.Verdicts.{Triable}
 use Rattle.probe.specs.Laws.Reaching.{reach-between}
 use Rattle.narrow.specs.Inner.Edges.{Amid, Search}
-use Rattle.narrow.specs.Laws.Reaching.{share-reach}
+use Rattle.narrow.specs.Laws.Reaching.{share-reach, triable}
 
 module _ {lows highs table : List ℕ} {total : ℕ} {limits : Limits} {i outer inner v : ℕ} (search : Search lows highs table total limits i outer inner)
     (amid : Amid outer inner v) (small : v ≤ greatestShare) where
@@ -36,14 +37,8 @@ module _ {lows highs table : List ℕ} {total : ℕ} {limits : Limits} {i outer 
       ]
 
   -- so it can be tried
-  pub search-triable : (row : ℕ) → Triable lows highs table total (record { member = i; value = v; row = row })
-  search-triable row = record {
-    sound = search .way .tabled .sound;
-    held = search .way .tabled .held;
-    here = search .way .here;
-    small = small;
-    reach = between-reach;
-  }
+  pub search-triable : Triable lows highs table total (getD lows i 0) (getD highs i 0) v
+  search-triable = triable (search .way) _ small between-reach
 
   -- and takes inner's place where it is taken
   pub search-in : test v ≡ true → Search lows highs table total limits i outer v

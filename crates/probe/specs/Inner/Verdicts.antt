@@ -1,16 +1,17 @@
 -- What is asked of a probe, and the pinned group's figures. Assumes nothing.
-use Prim.Native.Nat.{ℕ, _≤_, _<_}
+use Prim.Native.Nat.{ℕ, _*_}
+use mathlib.Core.Bool.{Bool}
 use mathlib.Core.List.{List}
 use mathlib.Core.Path.{_≡_}
 use lib.ListN.{length}
-use Rattle.model.specs.Shares.{greatestShare}
 use Rattle.model.specs.Figures.{figuresOf}
 use Rattle.model.specs.Levels.{levelled}
+use Rattle.model.specs.Plans.{hasPlan}
 use Rattle.model.specs.declared.Figures.{Figures}
-use Rattle.probe.specs.declared.probing.Trial.{Trial}
+use Rattle.model.specs.declared.Limits.{Limits}
 use Rattle.probe.specs.Inner.Tables.{SoundWithTotal, Breakpoints}
 use Rattle.probe.specs.Inner.Pinned.{Pin}
-use Rattle.probe.specs.Inner.Probes.{MadeUp}
+use Rattle.probe.specs.Inner.Probes.{InReach}
 
 -- some ranges have v in place of what a member with this low and high has
 pub record Asked (lows highs : List ℕ) (low high v : ℕ) : Type 0 where
@@ -23,9 +24,12 @@ pub record PinnedFigures (lows highs : List ℕ) (low high v total : ℕ) (figur
   pub is : {lows′ highs′ : List ℕ} → Pin lows highs low high v lows′ highs′ → figures ≡ figuresOf (length lows′) total (levelled lows′ highs′ total)
 
 -- a value that the other members can make up for
-pub record Triable (lows highs table : List ℕ) (total : ℕ) (trial : Trial) : Type 0 where
+pub record Triable (lows highs table : List ℕ) (total low high v : ℕ) : Type 0 where
   pub sound : SoundWithTotal lows highs total
   pub held : Breakpoints lows highs total table
-  pub here : trial .member < length lows
-  pub small : trial .value ≤ greatestShare
-  pub reach : MadeUp lows highs table total (trial .member) (trial .value)
+  pub asked : Asked lows highs low high v
+  pub reach : InReach table (2 * length lows) low high v total
+
+-- whether all such ranges have a plan
+pub record Decides (lows highs : List ℕ) (total : ℕ) (limits : Limits) (low high v : ℕ) (taken : Bool) : Type 0 where
+  pub is : {lows′ highs′ : List ℕ} → Pin lows highs low high v lows′ highs′ → taken ≡ hasPlan lows′ highs′ total limits

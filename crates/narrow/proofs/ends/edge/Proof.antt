@@ -9,21 +9,34 @@ use Rattle.model.specs.Figures.{apart}
 use Rattle.model.specs.Plans.{taken}
 use Rattle.narrow.specs.Inner.Edges.{Straddle, Search}
 use Rattle.narrow.specs.Laws.Edges.{straddle-start, straddle-in, straddle-out, amid-nearer}
+use Rattle.narrow.specs.Laws.Reaching.{told}
 use Rattle.narrow.specs.Laws.Searches.{search-triable, search-in, search-out}
 use Rattle.narrow.proofs.ends.edge.Statement.{statement}
 use Rattle.narrow.proofs.ends.edge.Tie as tie
 
 abbrev Inv-loop : tie.InvT-loop
-Inv-loop lows highs table question member outer₀ inner₀ inward₀ row₀ tries₀ outer inner inward row tries =
+Inv-loop lows highs table question member low high outer₀ inner₀ inward₀ row₀ tries₀ outer inner inward row tries =
     Straddle (taken lows highs (question .total) (question .limits) member) outer₀ inner₀ outer inner
     × Search lows highs table (question .total) (question .limits) member outer inner
 
 abbrev μ-loop : tie.MeasureT-loop
-μ-loop lows highs table question member outer₀ inner₀ inward₀ row₀ tries₀ outer inner inward row tries = apart outer inner
+μ-loop lows highs table question member low high outer₀ inner₀ inward₀ row₀ tries₀ outer inner inward row tries = apart outer inner
+
+mul-low : tie.Need-mul-low Inv-loop μ-loop
+mul-low c = search needs
+
+shared-slice-read-low : tie.Need-shared-slice-read-low Inv-loop μ-loop
+shared-slice-read-low c = search needs
+
+mul-high : tie.Need-mul-high Inv-loop μ-loop
+mul-high c = search needs
+
+shared-slice-read-high : tie.Need-shared-slice-read-high Inv-loop μ-loop
+shared-slice-read-high c = search needs
 
 loop-holds : tie.Need-loop-holds Inv-loop μ-loop
 loop-holds c =
-    let p = c .before .before .before .pre in
+    let p = c .before .before .before .before .before .pre in
     (straddle-start _ _ _ (p .fails) (p .way .passes), p)
 
 apart-requires : tie.Need-apart-requires Inv-loop μ-loop
@@ -38,7 +51,7 @@ module _ (c : tie.After-next-value Inv-loop μ-loop) where
   turn = c .before .before .before
 
   abbrev start : tie.Start Inv-loop μ-loop
-  start = turn .before .before .before .before
+  start = turn .before .before .before .before .before .before
 
   abbrev test : ℕ → Bool
   test = taken (start .args .lows .now) (start .args .highs .now) (start .args .question .total) (start .args .question .limits) (start .args .gap .member)
@@ -54,7 +67,7 @@ module _ (c : tie.After-next-value Inv-loop μ-loop) where
       amid-nearer (omega arith) (way .small) (way .share-small) (c .next-value .ensures)
 
 try-value-requires : tie.Need-try-value-requires Inv-loop μ-loop
-try-value-requires c κs = search-triable (turn c .loop .inv .1) (c .next-value .ensures) (nearer c .2) _
+try-value-requires c κs = search-triable (turn c .loop .inv .1) (c .next-value .ensures) (nearer c .2)
 
 fewer-requires : tie.Need-fewer-requires Inv-loop μ-loop
 fewer-requires c κs = search needs
@@ -66,7 +79,7 @@ loop-again : tie.Need-loop-again Inv-loop μ-loop
 loop-again c =
     let v = c .before .before .before in
     let inv = turn v .loop .inv in
-    let passes = sym (c .before .before .try-value .ensures) ∙ c .if2 .taken in
+    let passes = sym (told (inv .1 .way) _ (nearer v .2) (c .before .before .try-value .ensures)) ∙ c .if2 .taken in
     (straddle-in (test v) _ _ _ _ _ (inv .0) (v .next-value .ensures) passes, search-in (inv .1) (v .next-value .ensures) (nearer v .2) passes)
 
 loop-less-2 : tie.Need-loop-less-2 Inv-loop μ-loop
@@ -76,7 +89,7 @@ loop-again-2 : tie.Need-loop-again-2 Inv-loop μ-loop
 loop-again-2 c =
     let v = c .before .before .before in
     let inv = turn v .loop .inv in
-    let fails = sym (c .before .before .try-value .ensures) ∙ c .if2 .left in
+    let fails = sym (told (inv .1 .way) _ (nearer v .2) (c .before .before .try-value .ensures)) ∙ c .if2 .left in
     (straddle-out (test v) _ _ _ _ _ (inv .0) (v .next-value .ensures) fails, search-out (inv .1) (v .next-value .ensures) (nearer v .2) fails)
 
 returns : tie.Need-returns Inv-loop μ-loop
@@ -87,4 +100,4 @@ returns c =
 pub edge-spec : {M : Type 1} → statement M
 edge-spec =
     tie.close
-    (tie.spec Inv-loop μ-loop loop-holds apart-requires next-value-requires try-value-requires fewer-requires loop-less loop-again loop-less-2 loop-again-2 returns)
+    (tie.spec Inv-loop μ-loop mul-low shared-slice-read-low mul-high shared-slice-read-high loop-holds apart-requires next-value-requires try-value-requires fewer-requires loop-less loop-again loop-less-2 loop-again-2 returns)

@@ -8,27 +8,27 @@ use Rattle.model.specs.Plans.{taken}
 use Rattle.model.specs.declared.Limits.{Limits}
 use Rattle.narrow.specs.Inner.Edges.{Reaches, Approach, Search}
 use Rattle.narrow.specs.Laws.Edges.{nearest-reach, nearest-edge}
-use Rattle.narrow.specs.Laws.Reaching.{MovedIntoReach, probes, room, moved}
+use Rattle.narrow.specs.Laws.Reaching.{MovedIntoReach, probes, room, moved, triable, told}
 use Rattle.narrow.proofs.ends.farthest_taken.Statement.{statement}
 use Rattle.narrow.proofs.ends.farthest_taken.Tie as tie
 
 returns : tie.Need-returns
 returns c = Reaches.whole (rw (c .if1 .taken) (c .before .before .before .before .before .pre .passes))
 
+mul-low : tie.Need-mul-low
+mul-low c = search needs
+
+shared-slice-read-low : tie.Need-shared-slice-read-low
+shared-slice-read-low c = search needs
+
+mul-high : tie.Need-mul-high
+mul-high c = search needs
+
+shared-slice-read-high : tie.Need-shared-slice-read-high
+shared-slice-read-high c = search needs
+
 mul-last : tie.Need-mul-last
 mul-last c = search needs
-
-mul-into-reach : tie.Need-mul-into-reach
-mul-into-reach c = search needs
-
-shared-slice-read-into-reach : tie.Need-shared-slice-read-into-reach
-shared-slice-read-into-reach c = search needs
-
-mul-into-reach-2 : tie.Need-mul-into-reach-2
-mul-into-reach-2 c = search needs
-
-shared-slice-read-into-reach-2 : tie.Need-shared-slice-read-into-reach-2
-shared-slice-read-into-reach-2 c = search needs
 
 into-reach-requires : tie.Need-into-reach-requires
 into-reach-requires c κs =
@@ -53,22 +53,24 @@ module _ (c : tie.After-into-reach) where
   limits = start .args .question .limits
 
   abbrev i : ℕ
-  i = start .args .share .member
+  i = start .args .way .member
 
-  way : Approach lows highs (start .args .table .now) total limits i (start .args .end) (start .args .share .value)
+  way : Approach lows highs (start .args .table .now) total limits i (start .args .way .end) (start .args .way .share)
   way = start .pre
 
   there : MovedIntoReach way (c .into-reach .result)
   there = moved way (c .into-reach .ensures)
 
 try-value-requires : tie.Need-try-value-requires
-try-value-requires c κs =
-    let w = way c in
-    let t = there c in
-    record { sound = w .tabled .sound; held = w .tabled .held; here = w .here; small = t .small; reach = t .inReach }
+try-value-requires c κs = triable (way c) _ (there c .small) (there c .inReach)
+
+-- what the trial tells
+module _ (c : tie.After-try-value) where
+  is-taken : c .try-value .result .taken ≡ taken (lows (c .before)) (highs (c .before)) (total (c .before)) (limits (c .before)) (i (c .before)) (c .before .into-reach .result)
+  is-taken = told (way (c .before)) _ (there (c .before) .small) (c .try-value .ensures)
 
 returns-2 : tie.Need-returns-2
-returns-2 c = nearest-reach (there (c .before .before) .nearest) (sym (c .before .try-value .ensures) ∙ c .if2 .taken)
+returns-2 c = nearest-reach (there (c .before .before) .nearest) (sym (is-taken (c .before)) ∙ c .if2 .taken)
 
 -- the value in reach is not taken: the way from the share to it is searched
 module _ (e : tie.Else2) where
@@ -76,9 +78,9 @@ module _ (e : tie.Else2) where
   from = e .before .before
 
   fails : taken (lows from) (highs from) (total from) (limits from) (i from) (from .into-reach .result) ≡ false
-  fails = sym (e .before .try-value .ensures) ∙ e .if2 .left
+  fails = sym (is-taken (e .before)) ∙ e .if2 .left
 
-  searched : Search (lows from) (highs from) (start from .args .table .now) (total from) (limits from) (i from) (from .into-reach .result) (start from .args .share .value)
+  searched : Search (lows from) (highs from) (start from .args .table .now) (total from) (limits from) (i from) (from .into-reach .result) (start from .args .way .share)
   searched =
       let w = way from in
       record {
@@ -100,11 +102,11 @@ farthest-taken-spec =
     tie.close
     (tie.spec
     returns
+    mul-low
+    shared-slice-read-low
+    mul-high
+    shared-slice-read-high
     mul-last
-    mul-into-reach
-    shared-slice-read-into-reach
-    mul-into-reach-2
-    shared-slice-read-into-reach-2
     into-reach-requires
     try-value-requires
     returns-2

@@ -57,7 +57,7 @@ start c = c .before .before .before .before .before .before
 has-plan-requires : tie.Need-has-plan-requires Inv-loop μ-loop
 has-plan-requires c κs =
     let s = start c in
-    (s .pre .1 .0 .sound, (s .pre .1 .0 .held, (in-reach s, c .level-on .ensures .found)))
+    (s .pre .1 .0 .sound, (s .pre .1 .0 .held, in-reach s))
 
 returns : tie.Need-returns Inv-loop μ-loop
 unfolding turnOf
@@ -138,8 +138,8 @@ module _ (c : tie.After-clamp Inv-loop μ-loop) where
   next : Ahead lows highs v left (turn .loop .left - more) (i + 1)
   next = ahead-step lows highs i (omega arith) (omega arith) v left (turn .loop .left) (c .clamp .result) more (c .clamp .ensures) (c .before .extra .ensures) (turn .loop .inv .3)
 
-add-value : tie.Need-add-value Inv-loop μ-loop
-add-value c = omega (arith, share-at-small (from c .pre .0 .sound) (i c) (v c) (turn c .loop .left) (c .clamp .result) (more c) (omega arith) (c .clamp .ensures) (c .before .extra .ensures))
+add-share : tie.Need-add-share Inv-loop μ-loop
+add-share c = omega (arith, share-at-small (from c .pre .0 .sound) (i c) (v c) (turn c .loop .left) (c .clamp .result) (more c) (omega arith) (c .clamp .ensures) (c .before .extra .ensures))
 
 sub-left : tie.Need-sub-left Inv-loop μ-loop
 sub-left c = search needs
@@ -213,7 +213,7 @@ narrow-on-spec =
     shared-slice-read-high
     extra-requires
     clamp-requires
-    add-value
+    add-share
     sub-left
     farthest-taken-requires
     mul-starts

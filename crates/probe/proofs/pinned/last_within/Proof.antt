@@ -17,11 +17,11 @@ record Between (table : List ℕ) (last low high v total k top : ℕ) : Type 0 w
   pub fails : top ≤ last → total < pinnedTotal (rowAt table top) low high v
 
 abbrev Inv-loop : tie.InvT-loop
-Inv-loop table last low high v total near k₀ top₀ step₀ k top step =
-    Between table last low high v total k top × (0 < step) × (step ≤ 1024)
+Inv-loop table last trial total k₀ top₀ step₀ k top step =
+    Between table last (trial .low) (trial .high) (trial .value) total k top × (0 < step) × (step ≤ 1024)
 
 abbrev μ-loop : tie.MeasureT-loop
-μ-loop table last low high v total near k₀ top₀ step₀ k top step = top - k
+μ-loop table last trial total k₀ top₀ step₀ k top step = top - k
 
 add-top : tie.Need-add-top Inv-loop μ-loop
 add-top c = search needs

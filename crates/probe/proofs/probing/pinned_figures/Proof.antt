@@ -31,25 +31,25 @@ module _ (s : tie.Start) where
   highs = s .args .highs .now
 
   abbrev row : Row
-  row = rowAt (s .args .table .now) (s .args .k)
+  row = rowAt (s .args .table .now) (s .args .trial .row)
 
   abbrev left : ℕ
-  left = s .args .total - pinnedTotal row (s .args .low) (s .args .high) (s .args .v)
+  left = s .args .total - pinnedTotal row (s .args .trial .low) (s .args .trial .high) (s .args .trial .value)
 
   sound : SoundWithTotal lows highs (s .args .total)
-  sound = s .pre .0
+  sound = s .pre .0 .sound
 
   held : Breakpoints lows highs (s .args .total) (s .args .table .now)
-  held = s .pre .1 .0
+  held = s .pre .0 .held
 
-  asked : Asked lows highs (s .args .low) (s .args .high) (s .args .v)
-  asked = s .pre .1 .1 .0
+  asked : Asked lows highs (s .args .trial .low) (s .args .trial .high) (s .args .trial .value)
+  asked = s .pre .0 .asked
 
-  found : LastWithin (s .args .table .now) (2 * length lows) (s .args .low) (s .args .high) (s .args .v) (s .args .total) (s .args .k)
-  found = s .pre .1 .1 .1 .0
+  found : LastWithin (s .args .table .now) (2 * length lows) (s .args .trial .low) (s .args .trial .high) (s .args .trial .value) (s .args .total) (s .args .trial .row)
+  found = s .pre .1
 
   sums : Sums lows highs (s .args .total) row
-  sums = held .sums (s .args .k) (found .upTo)
+  sums = held .sums (s .args .trial .row) (found .upTo)
 
 -- the start, seen from the row and from what follows it
 abbrev from-row : tie.After-read-row → tie.Start
@@ -63,18 +63,18 @@ module _ (c : tie.After-reach-from) where
   abbrev reach : Reach
   reach = c .reach-from .result
 
-  divided : Divided (row (from-reach c)) (from-reach c .args .low) (from-reach c .args .high) (left (from-reach c)) reach
+  divided : Divided (row (from-reach c)) (from-reach c .args .trial .low) (from-reach c .args .trial .high) (left (from-reach c)) reach
   divided = rw (c .before .pinned-total .ensures, c .before .before .read-row .ensures) at (c .reach-from .ensures)
 
   few : (reach .growing ≤ 256) × (reach .over ≤ 256)
   few = divided-few divided (omega (arith, sums (from-reach c) .fewLows, sound (from-reach c) .few))
 
-  module _ {lows′ highs′ : List ℕ} (pin : Pin (lows (from-reach c)) (highs (from-reach c)) (from-reach c .args .low) (from-reach c .args .high) (from-reach c .args .v) lows′ highs′) where
+  module _ {lows′ highs′ : List ℕ} (pin : Pin (lows (from-reach c)) (highs (from-reach c)) (from-reach c .args .trial .low) (from-reach c .args .trial .high) (from-reach c .args .trial .value) lows′ highs′) where
     there : Reached lows′ highs′ (from-reach c .args .total) (row (from-reach c) .mark) (reach .growing) (reach .level) (reach .over)
-    there = reached (sound (from-reach c)) (held (from-reach c)) pin (found (from-reach c)) (from-reach c .pre .1 .1 .1 .1) reach divided
+    there = reached (sound (from-reach c)) (held (from-reach c)) pin (found (from-reach c)) (from-reach c .pre .0 .reach .greatest) reach divided
 
     can : (f : ℕ → ℕ) {stored : ℕ} → stored ≡ sumOf f (clamped (lows (from-reach c)) (highs (from-reach c)) (row (from-reach c) .mark)) → Small f
-        → Summable f stored (row (from-reach c) .mark) (clamp (from-reach c .args .low) (from-reach c .args .high) (row (from-reach c) .mark)) (from-reach c .args .v) reach
+        → Summable f stored (row (from-reach c) .mark) (clamp (from-reach c .args .trial .low) (from-reach c .args .trial .high) (row (from-reach c) .mark)) (from-reach c .args .trial .value) reach
     can f is small = summable pin there f is (sound (from-reach c)) small (sums (from-reach c) .share) (few .0) (few .1)
 
 read-row-requires : tie.Need-read-row-requires
@@ -83,7 +83,7 @@ read-row-requires c κs = search needs
 pinned-total-requires : tie.Need-pinned-total-requires
 pinned-total-requires c κs =
     let s = from-row c in
-    rw (c .read-row .ensures) (pinnable (sound s) (held s) (asked s .pin) (s .args .k) (found s .upTo))
+    rw (c .read-row .ensures) (pinnable (sound s) (held s) (asked s .pin) (s .args .trial .row) (found s .upTo))
 
 sub-left : tie.Need-sub-left
 sub-left c = rw (c .pinned-total .ensures, c .before .read-row .ensures) (found (from-row (c .before)) .holds)
@@ -92,7 +92,7 @@ reach-from-requires : tie.Need-reach-from-requires
 reach-from-requires c κs =
     let s = from-row (c .before) in
     rw (c .pinned-total .ensures, c .before .read-row .ensures)
-    (λ some. growing (sound s) (held s) (asked s .pin) (found s) (s .pre .1 .1 .1 .1) some, omega (arith, sums s .share, sound s .small))
+    (λ some. growing (sound s) (held s) (asked s .pin) (found s) (s .pre .0 .reach .greatest) some, omega (arith, sums s .share, sound s .small))
 
 clamp-requires : tie.Need-clamp-requires
 clamp-requires c κs = asked (from-reach c) .pin .ordered
@@ -122,7 +122,7 @@ module _ (c : tie.After-pinned-squares) where
   abbrev begun : tie.Start
   begun = from-reach at
 
-  module _ {lows′ highs′ : List ℕ} (pin : Pin (lows begun) (highs begun) (begun .args .low) (begun .args .high) (begun .args .v) lows′ highs′) where
+  module _ {lows′ highs′ : List ℕ} (pin : Pin (lows begun) (highs begun) (begun .args .trial .low) (begun .args .trial .high) (begun .args .trial .value) lows′ highs′) where
     is-deviation : c .before .pinned-deviation .result .0
         ≡ sumOf (fromMean (length (lows begun)) (begun .args .total)) (topped lows′ highs′ (reach at .level) (reach at .over))
     is-deviation = moves-sum pin (there at pin) _ (sums begun .deviations)
