@@ -3,14 +3,25 @@
 
 use danivomel::{Deviation, Limit, Limits, Spread};
 use danivomel_tests::calls::met;
-use danivomel_tests::independent::level::{clamp, deviation_part};
+use danivomel_tests::independent::level::clamp;
 
 /// Sums over the shares at one level.
 #[derive(Clone, Copy, Default)]
 pub struct Sums {
     pub total: u64,
-    deviation: u64,
     squares: u64,
+}
+
+impl Sums {
+    /// Sums with so many more shares of one size.
+    fn with(self, count: u64, share: u64) -> Sums {
+        Sums { total: self.total + count * share, squares: self.squares + count * share * share }
+    }
+
+    /// Sums with so many fewer shares of one size.
+    fn without(self, count: u64, share: u64) -> Sums {
+        Sums { total: self.total - count * share, squares: self.squares - count * share * share }
+    }
 }
 
 /// A bound, the sums where every member takes it moved into its range, and how many members grow there.
@@ -22,7 +33,7 @@ pub struct Row {
 }
 
 /// One member: its range at the start, and its levelled share.
-#[derive(Clone, Copy)]
+#[derive(Clone, Copy, Default)]
 pub struct Member {
     pub low: u64,
     pub high: u64,
@@ -42,12 +53,15 @@ impl<const N: usize, const R: usize> Room<N, R> {
     }
 }
 
-/// A group's rows, rising, the row of its levelled shares, and what its figures need.
+/// A group's rows, rising, the row of its levelled shares, and what its figures need: the sum of n × low − S over the members
+/// where that is positive, and of S − n × high likewise.
 pub struct Table<'a> {
     pub rows: &'a [Row],
     pub near: usize,
     pub total: u64,
     n: u64,
+    above: u64,
+    below: u64,
     limits: Limits,
 }
 
@@ -65,10 +79,12 @@ impl<'a> Table<'a> {
         ends.copy_from_slice(highs);
         starts.sort_unstable();
         ends.sort_unstable();
-        let mut table = Table { rows: &[], near: 0, total, n: lows.len() as u64, limits };
+        let n = lows.len() as u64;
+        let above = lows.iter().map(|low| (n * low).saturating_sub(total)).sum();
+        let below = highs.iter().map(|high| total.saturating_sub(n * high)).sum();
         let mut sums = Sums::default();
         for &low in lows {
-            sums = table.with(sums, 1, low);
+            sums = sums.with(1, low);
         }
         let (mut started, mut ended, mut level, mut count) = (0, 0, starts[0], 0);
         loop {
@@ -81,36 +97,12 @@ impl<'a> Table<'a> {
                 break;
             }
             let next = starts[started..].first().map_or(ends[ended], |start| ends[ended].min(*start));
-            sums = table.with(table.without(sums, growing, level), growing, next);
+            sums = sums.without(growing, level).with(growing, next);
             level = next;
         }
-        table.rows = &room.rows[..count];
-        table.near = table.rows.partition_point(|row| row.sums.total <= total) - 1;
-        table
-    }
-
-    /// Sums with so many more shares of one size.
-    fn with(&self, sums: Sums, count: u64, share: u64) -> Sums {
-        Sums {
-            total: sums.total + count * share,
-            deviation: sums.deviation + count * deviation_part(self.n, share, self.total),
-            squares: sums.squares + count * share * share,
-        }
-    }
-
-    /// Sums with so many fewer shares of one size.
-    fn without(&self, sums: Sums, count: u64, share: u64) -> Sums {
-        Sums {
-            total: sums.total - count * share,
-            deviation: sums.deviation - count * deviation_part(self.n, share, self.total),
-            squares: sums.squares - count * share * share,
-        }
-    }
-
-    /// Whether the figures of all shares are within the limits.
-    fn met(&self, sums: Sums) -> bool {
-        let spread = self.n * sums.squares - self.total * self.total;
-        met(self.limits, Deviation(sums.deviation), Spread(spread))
+        let rows = &room.rows[..count];
+        let near = rows.partition_point(|row| row.sums.total <= total) - 1;
+        Table { rows, near, total, n, above, below, limits }
     }
 
     /// Gives what a total has more than a row's to its growing members, who are all at its level: their new level, the
@@ -121,14 +113,32 @@ impl<'a> Table<'a> {
         }
         let more = total - row.sums.total;
         let (level, left) = (row.level + more / row.growing, more % row.growing);
-        let moved = self.with(self.without(row.sums, row.growing, row.level), row.growing - left, level);
-        (level, left, self.with(moved, left, level + 1))
+        let moved = row.sums.without(row.growing, row.level).with(row.growing - left, level);
+        (level, left, moved.with(left, level + 1))
+    }
+
+    /// The spread of shares with these sums.
+    fn spread(&self, sums: Sums) -> u64 {
+        self.n * sums.squares - self.total * self.total
+    }
+
+    /// The deviation where a member takes a value and the others are at a level with copies left over: twice its part below
+    /// the mean, where only members at their highs are, or above it, where only those at their lows are and those with a
+    /// copy left over. A member with the range 0 to 0 and the value 0 changes nothing.
+    fn deviation(&self, member: Member, value: u64, level: u64, left: u64) -> u64 {
+        let part = |share: u64| (self.n * share).saturating_sub(self.total);
+        let short = |share: u64| self.total.saturating_sub(self.n * share);
+        if self.total <= self.n * level {
+            return 2 * (self.below + short(value) - short(member.high));
+        }
+        2 * (self.above + part(value) - part(member.low) + left * part(level + 1))
     }
 
     /// The levelled shares' level and remainder, where they are within the limits.
     pub fn levelled(&self) -> Option<(u64, u64)> {
         let (level, left, sums) = self.spend(self.rows[self.near], self.total);
-        self.met(sums).then_some((level, left))
+        let deviation = self.deviation(Member::default(), 0, level, left);
+        met(self.limits, Deviation(deviation), Spread(self.spread(sums))).then_some((level, left))
     }
 
     /// The total of a row without one member.
@@ -145,21 +155,21 @@ impl<'a> Table<'a> {
     }
 
     /// A row without one member.
-    pub fn others(&self, row: usize, member: Member) -> Row {
+    fn others(&self, row: usize, member: Member) -> Row {
         let row = self.rows[row];
         let own = clamp(member.low, member.high, row.level);
         let growing = row.growing - u64::from(member.low <= row.level && row.level < member.high);
-        Row { level: row.level, growing, sums: self.without(row.sums, 1, own) }
+        Row { level: row.level, growing, sums: row.sums.without(1, own) }
     }
 
-    /// Whether the limits are met where a member takes a value and the others are between their row and the next one, and
+    /// Whether the limits are met where a member takes a value and the others are between a row and the next one, and
     /// where they are not, how many values inward they can be at the soonest: Newton's step. A value nearer takes at most
     /// 2 n off the deviation, and 2 n times its distance from the others' level off the spread.
-    pub fn tried(&self, others: Row, value: u64) -> (bool, u64) {
-        let (level, _, sums) = self.spend(others, self.total - value);
-        let sums = self.with(sums, 1, value);
-        let spread = self.n * sums.squares - self.total * self.total;
-        let by_deviation = steps(excess(self.limits.deviation, sums.deviation), 2 * self.n);
+    pub fn tried(&self, member: Member, row: usize, value: u64) -> (bool, u64) {
+        let (level, left, sums) = self.spend(self.others(row, member), self.total - value);
+        let deviation = self.deviation(member, value, level, left);
+        let spread = self.spread(sums.with(1, value));
+        let by_deviation = steps(excess(self.limits.deviation, deviation), 2 * self.n);
         let by_spread = steps(excess(self.limits.spread, spread), 2 * self.n * value.abs_diff(level).max(1));
         (by_deviation == 0 && by_spread == 0, by_deviation.max(by_spread))
     }

@@ -38,7 +38,7 @@ fn end(table: &Table, member: Member, end: u64) -> u64 {
     }
     let (mut outer, mut inner) = (table.into_reach(member, end), member.share);
     let mut row = row_of(table, member, outer, table.near);
-    let (mut taken, mut step) = table.tried(table.others(row, member), outer);
+    let (mut taken, mut step) = table.tried(member, row, outer);
     if taken {
         return outer;
     }
@@ -53,7 +53,7 @@ fn end(table: &Table, member: Member, end: u64) -> u64 {
         tries = (tries + 1).min(NEWTON_STEPS);
         let value = if outer < inner { outer + inward } else { outer - inward };
         row = row_of(table, member, value, row);
-        (taken, step) = table.tried(table.others(row, member), value);
+        (taken, step) = table.tried(member, row, value);
         if taken {
             inner = value;
         } else {

@@ -5,9 +5,11 @@ use model::numbers::apart;
 use probe::pinned::Trial;
 use probe::pinned::into_reach;
 use probe::probing::try_value;
+use probe::sides::Sides;
 ghost use Prim.Native.Nat.{_<_};
 ghost use Rattle.model.specs.Figures.{apart};
 ghost use Rattle.model.specs.Plans.{taken};
+ghost use Rattle.probe.specs.Inner.Sides.{BothSides};
 ghost use Rattle.narrow.specs.Inner.Edges.{Amid, Edge, Reaches, Approach, Search};
 
 // How many of Newton's steps an end gets before bisection takes over, which bounds the search.
@@ -55,8 +57,16 @@ fn fewer(tries: u64) -> u64 {
 }
 
 // The value nearest to the outer one of a gap that some plan gives the member.
-fn edge(lows: &[u64], highs: &[u64], table: &[u64], question: Question, gap: Gap) -> u64
+fn edge(
+    lows: &[u64],
+    highs: &[u64],
+    table: &[u64],
+    question: Question,
+    sides: Sides,
+    gap: Gap,
+) -> u64
     requires { ⌜ Search (now lows) (now highs) (now table) (question .total) (question .limits) (gap .member) (gap .outer) (gap .inner) ⌝ }
+    requires { ⌜ BothSides (now lows) (now highs) (question .total) sides ⌝ }
     ensures { λ r. ⌜ Edge (taken (now (lows .entry)) (now (highs .entry)) (question .total) (question .limits) (gap .member)) (gap .outer) (gap .inner) r ⌝ }
 {
     let member = gap.member;
@@ -75,7 +85,7 @@ fn edge(lows: &[u64], highs: &[u64], table: &[u64], question: Question, gap: Gap
             value,
             row,
         };
-        let tried = try_value(lows, highs, table, question, trial);
+        let tried = try_value(lows, highs, table, question, sides, trial);
         inward = tried.inward;
         row = tried.row;
         tries = fewer(tries);
@@ -102,9 +112,11 @@ pub(crate) fn farthest_taken(
     highs: &[u64],
     table: &[u64],
     question: Question,
+    sides: Sides,
     way: Way,
 ) -> u64
     requires { ⌜ Approach (now lows) (now highs) (now table) (question .total) (question .limits) (way .member) (way .end) (way .share) ⌝ }
+    requires { ⌜ BothSides (now lows) (now highs) (question .total) sides ⌝ }
     ensures { λ r. ⌜ Reaches (taken (now (lows .entry)) (now (highs .entry)) (question .total) (question .limits) (way .member)) (way .end) (way .share) r ⌝ }
 {
     // Some plan gives the share.
@@ -117,18 +129,13 @@ pub(crate) fn farthest_taken(
     let last = 2 * lows.len();
     let value = into_reach(table, last, low, high, way.end, question.total);
     let row = way.row;
-    let tried = try_value(
-        lows,
-        highs,
-        table,
-        question,
-        Trial {
-            low,
-            high,
-            value,
-            row,
-        },
-    );
+    let trial = Trial {
+        low,
+        high,
+        value,
+        row,
+    };
+    let tried = try_value(lows, highs, table, question, sides, trial);
     if tried.taken {
         return value;
     }
@@ -139,5 +146,5 @@ pub(crate) fn farthest_taken(
         inward: tried.inward,
         row: tried.row,
     };
-    edge(lows, highs, table, question, gap)
+    edge(lows, highs, table, question, sides, gap)
 }

@@ -13,6 +13,7 @@ use model::shares::has_shares;
 use probe::build::build;
 use probe::probing::has_plan;
 use probe::probing::level_on;
+use probe::sides::both_sides;
 ghost use mathlib.Core.Path.{_≡_};
 ghost use Prim.Native.Nat.{_≤_};
 ghost use lib.ListN.{length, take};
@@ -39,9 +40,10 @@ fn narrow_on(
     ensures { λ r. ⌜ now (starts .exit) ≡ afterTurn r (narrowedLows (now (lows .entry)) (now (highs .entry)) (question .total) (question .limits)) (now (starts .entry)) ⌝ }
     ensures { λ r. ⌜ now (stops .exit) ≡ afterTurn r (narrowedHighs (now (lows .entry)) (now (highs .entry)) (question .total) (question .limits)) (now (stops .entry)) ⌝ }
 {
+    let sides = both_sides(lows, highs, question.total);
     let levelled = level_on(lows, highs, table, question.total);
     let row = levelled.row;
-    if !has_plan(lows, highs, table, question, row) {
+    if !has_plan(lows, highs, table, question, sides, row) {
         return Turn::NoPlan(12);
     }
     let v = levelled.level;
@@ -59,14 +61,14 @@ fn narrow_on(
             end: low,
             row,
         };
-        starts[member] = farthest_taken(lows, highs, table, question, down);
+        starts[member] = farthest_taken(lows, highs, table, question, sides, down);
         let up = Way {
             member,
             share,
             end: high,
             row,
         };
-        stops[member] = farthest_taken(lows, highs, table, question, up);
+        stops[member] = farthest_taken(lows, highs, table, question, sides, up);
         member += 1;
     }
     Turn::Narrowed
@@ -90,7 +92,7 @@ fn narrow_with(
     if !has_shares(lows, highs, total) {
         return Turn::NoPlan(11);
     }
-    build(lows, highs, starts, stops, total, table);
+    build(lows, highs, starts, stops, table);
     let turn = narrow_on(lows, highs, table, question, starts, stops);
     let Turn::Narrowed = turn else {
         return turn;
@@ -132,7 +134,7 @@ fn narrow_few(lows: &mut [u64], highs: &mut [u64], question: Question) -> Turn
 {
     let mut starts = [0u64; 16];
     let mut stops = [0u64; 16];
-    let mut table = [0u64; 198];
+    let mut table = [0u64; 165];
     narrow_within(lows, highs, question, &mut starts, &mut stops, &mut table)
 }
 
@@ -146,7 +148,7 @@ pub fn narrow_core(lows: &mut [u64], highs: &mut [u64], question: Question) -> T
     }
     let mut starts = [0u64; MOST_UNITS];
     let mut stops = [0u64; MOST_UNITS];
-    let mut table = [0u64; 3078];
+    let mut table = [0u64; 2565];
     narrow_within(lows, highs, question, &mut starts, &mut stops, &mut table)
 }
 

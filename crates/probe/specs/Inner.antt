@@ -4,6 +4,7 @@ pub mod Orders
 pub mod Pinned
 pub mod Probes
 pub mod Rows
+pub mod Sides
 pub mod Spans
 pub mod Steps
 pub mod Tables

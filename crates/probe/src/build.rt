@@ -8,24 +8,25 @@ use model::lists::copy;
 ghost use mathlib.Core.Path.{_≡_};
 ghost use Prim.Native.Nat.{_+_, _*_, _≤_};
 ghost use lib.ListN.{length};
+ghost use Rattle.model.specs.Sound.{SoundRanges};
 ghost use Rattle.probe.specs.Inner.Orders.{Ordered};
-ghost use Rattle.probe.specs.Inner.Tables.{SoundWithTotal, Breakpoints};
+ghost use Rattle.probe.specs.Inner.Tables.{Breakpoints};
 ghost use Rattle.probe.specs.Inner.Steps.{Risen};
 
 // Fills the table from the sorted bounds, row after row.
-fn fill(lows: &[u64], highs: &[u64], starts: &[u64], stops: &[u64], total: u64, table: &mut [u64])
-    requires { ⌜ SoundWithTotal (now lows) (now highs) total ⌝ }
+fn fill(lows: &[u64], highs: &[u64], starts: &[u64], stops: &[u64], table: &mut [u64])
+    requires { ⌜ SoundRanges (now lows) (now highs) ⌝ }
     requires { ⌜ Risen (now lows) (now highs) (now starts) (now stops) ⌝ }
-    requires { ⌜ 6 * (2 * length (now lows)) + 6 ≤ length (now table) ⌝ }
-    ensures { λ _. ⌜ Breakpoints (now (lows .entry)) (now (highs .entry)) total (now (table .exit)) ⌝ }
+    requires { ⌜ 5 * (2 * length (now lows)) + 5 ≤ length (now table) ⌝ }
+    ensures { λ _. ⌜ Breakpoints (now (lows .entry)) (now (highs .entry)) (now (table .exit)) ⌝ }
 {
     let last = 2 * lows.len();
-    let first = first_row(lows, highs, total);
+    let first = first_row(lows, highs);
     write_row(table, 0, first);
     let mut k: usize = 0;
     while k < last {
         let row = read_row(table, k);
-        let next = next_row(lows, highs, starts, stops, total, row);
+        let next = next_row(lows, highs, starts, stops, row);
         k += 1;
         write_row(table, k, next);
     }
@@ -41,21 +42,14 @@ fn rising(from: &[u64], to: &mut [u64])
 }
 
 // Builds the table of a group. The two further lists, as long as the group, hold the sorted lows and highs afterwards.
-pub fn build(
-    lows: &[u64],
-    highs: &[u64],
-    starts: &mut [u64],
-    stops: &mut [u64],
-    total: u64,
-    table: &mut [u64],
-)
-    requires { ⌜ SoundWithTotal (now lows) (now highs) total ⌝ }
+pub fn build(lows: &[u64], highs: &[u64], starts: &mut [u64], stops: &mut [u64], table: &mut [u64])
+    requires { ⌜ SoundRanges (now lows) (now highs) ⌝ }
     requires { ⌜ length (now starts) ≡ length (now lows) ⌝ }
     requires { ⌜ length (now stops) ≡ length (now highs) ⌝ }
-    requires { ⌜ 6 * (2 * length (now lows)) + 6 ≤ length (now table) ⌝ }
-    ensures { λ _. ⌜ Breakpoints (now (lows .entry)) (now (highs .entry)) total (now (table .exit)) ⌝ }
+    requires { ⌜ 5 * (2 * length (now lows)) + 5 ≤ length (now table) ⌝ }
+    ensures { λ _. ⌜ Breakpoints (now (lows .entry)) (now (highs .entry)) (now (table .exit)) ⌝ }
 {
     rising(lows, starts);
     rising(highs, stops);
-    fill(lows, highs, starts, stops, total, table);
+    fill(lows, highs, starts, stops, table);
 }

@@ -6,4 +6,5 @@ pub mod order;
 pub mod pinned;
 pub mod probing;
 pub mod rows;
+pub mod sides;
 pub mod table;

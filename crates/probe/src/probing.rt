@@ -1,5 +1,4 @@
 // Probes of pinned values on the breakpoint table of a group.
-use crate::figures::pinned_deviation;
 use crate::figures::pinned_squares;
 use crate::newton::newton_step;
 use crate::pinned::Trial;
@@ -7,6 +6,8 @@ use crate::pinned::last_within;
 use crate::pinned::pinned_total;
 use crate::pinned::reach_from;
 use crate::rows::read_row;
+use crate::sides::Sides;
+use crate::sides::pinned_deviation;
 use model::Figures;
 use model::Question;
 use model::Share;
@@ -19,6 +20,7 @@ ghost use lib.ListN.{length};
 ghost use Rattle.model.specs.Plans.{hasPlan};
 ghost use Rattle.probe.specs.Inner.Tables.{SoundWithTotal, Breakpoints};
 ghost use Rattle.probe.specs.Inner.Probes.{LastWithin, InReach, LevelledOn};
+ghost use Rattle.probe.specs.Inner.Sides.{BothSides};
 ghost use Rattle.probe.specs.Inner.Verdicts.{PinnedFigures, Triable, Decides};
 
 // The figures of a pinned group's levelled shares, and the level of the others there.
@@ -28,8 +30,15 @@ struct Pinned {
 }
 
 // The figures of the pinned group's levelled shares, from the row below its level.
-fn pinned_figures(lows: &[u64], highs: &[u64], table: &[u64], total: u64, trial: Trial) -> Pinned
-    requires { ⌜ Triable (now lows) (now highs) (now table) total (trial .low) (trial .high) (trial .value) ⌝ }
+fn pinned_figures(
+    lows: &[u64],
+    highs: &[u64],
+    table: &[u64],
+    total: u64,
+    sides: Sides,
+    trial: Trial,
+) -> Pinned
+    requires { ⌜ Triable (now lows) (now highs) (now table) total sides (trial .low) (trial .high) (trial .value) ⌝ }
     requires { ⌜ LastWithin (now table) (2 * length (now lows)) (trial .low) (trial .high) (trial .value) total (trial .row) ⌝ }
     ensures { λ r. ⌜ PinnedFigures (now (lows .entry)) (now (highs .entry)) (trial .low) (trial .high) (trial .value) total (r .figures) ⌝ }
 {
@@ -39,7 +48,7 @@ fn pinned_figures(lows: &[u64], highs: &[u64], table: &[u64], total: u64, trial:
     let left = total - pinned_total(row, trial.low, trial.high, v);
     let reach = reach_from(row, trial.low, trial.high, left);
     let own = clamp(trial.low, trial.high, row.mark);
-    let deviation = pinned_deviation(count, total, row, own, v, reach);
+    let deviation = pinned_deviation(count, total, sides, trial, reach);
     let squares = pinned_squares(row, own, v, reach);
     let figures = Figures {
         deviation,
@@ -64,9 +73,10 @@ pub fn try_value(
     highs: &[u64],
     table: &[u64],
     question: Question,
+    sides: Sides,
     trial: Trial,
 ) -> Tried
-    requires { ⌜ Triable (now lows) (now highs) (now table) (question .total) (trial .low) (trial .high) (trial .value) ⌝ }
+    requires { ⌜ Triable (now lows) (now highs) (now table) (question .total) sides (trial .low) (trial .high) (trial .value) ⌝ }
     ensures { λ r. ⌜ Decides (now (lows .entry)) (now (highs .entry)) (question .total) (question .limits) (trial .low) (trial .high) (trial .value) (r .taken) ⌝ }
 {
     let total = question.total;
@@ -81,7 +91,7 @@ pub fn try_value(
         value,
         row,
     };
-    let pinned = pinned_figures(lows, highs, table, total, found);
+    let pinned = pinned_figures(lows, highs, table, total, sides, found);
     if question.limits.met(pinned.figures) {
         return Tried {
             taken: true,
@@ -108,7 +118,7 @@ pub struct Levelled {
 // The level at which the group has its total.
 pub fn level_on(lows: &[u64], highs: &[u64], table: &[u64], total: u64) -> Levelled
     requires { ⌜ SoundWithTotal (now lows) (now highs) total ⌝ }
-    requires { ⌜ Breakpoints (now lows) (now highs) total (now table) ⌝ }
+    requires { ⌜ Breakpoints (now lows) (now highs) (now table) ⌝ }
     requires { ⌜ InReach (now table) (2 * length (now lows)) 0 0 0 total ⌝ }
     ensures { λ r. ⌜ LevelledOn (now (lows .entry)) (now (highs .entry)) (now (table .entry)) total r ⌝ }
 {
@@ -131,9 +141,17 @@ pub fn level_on(lows: &[u64], highs: &[u64], table: &[u64], total: u64) -> Level
 }
 
 // Whether the group has a plan; the row is one to look at first.
-pub fn has_plan(lows: &[u64], highs: &[u64], table: &[u64], question: Question, row: usize) -> bool
+pub fn has_plan(
+    lows: &[u64],
+    highs: &[u64],
+    table: &[u64],
+    question: Question,
+    sides: Sides,
+    row: usize,
+) -> bool
     requires { ⌜ SoundWithTotal (now lows) (now highs) (question .total) ⌝ }
-    requires { ⌜ Breakpoints (now lows) (now highs) (question .total) (now table) ⌝ }
+    requires { ⌜ Breakpoints (now lows) (now highs) (now table) ⌝ }
+    requires { ⌜ BothSides (now lows) (now highs) (question .total) sides ⌝ }
     requires { ⌜ InReach (now table) (2 * length (now lows)) 0 0 0 (question .total) ⌝ }
     ensures { λ r. ⌜ r ≡ hasPlan (now (lows .entry)) (now (highs .entry)) (question .total) (question .limits) ⌝ }
 {
@@ -143,6 +161,6 @@ pub fn has_plan(lows: &[u64], highs: &[u64], table: &[u64], question: Question, 
         value: 0,
         row,
     };
-    let tried = try_value(lows, highs, table, question, whole);
+    let tried = try_value(lows, highs, table, question, sides, whole);
     tried.taken
 }

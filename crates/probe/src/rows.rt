@@ -1,14 +1,13 @@
-// The rows of a breakpoint table: six numbers each, one row after another in a list.
+// The rows of a breakpoint table: five numbers each, one row after another in a list.
 ghost use mathlib.Core.Path.{_≡_};
 ghost use Prim.Native.Nat.{_+_, _*_, _≤_};
 ghost use lib.ListN.{length};
 ghost use Rattle.probe.specs.Inner.Rows.{rowAt, RowWritten};
 
-// A breakpoint: its level, T there, the sum of |n × share − S| and the sum of squares of the shares there, and how many lows and highs are passed.
+// A breakpoint: its level, T there and the sum of squares of the shares there, and how many lows and highs are passed.
 pub struct Row {
     pub mark: u64,
     pub total: u64,
-    pub deviation: u64,
     pub squares: u64,
     pub lows: u64,
     pub highs: u64,
@@ -16,30 +15,28 @@ pub struct Row {
 
 // Row k of a table.
 pub fn read_row(table: &[u64], k: usize) -> Row
-    requires { ⌜ 6 * k + 6 ≤ length (now table) ⌝ }
+    requires { ⌜ 5 * k + 5 ≤ length (now table) ⌝ }
     ensures { λ r. ⌜ r ≡ rowAt (now (table .entry)) k ⌝ }
 {
-    let at = 6 * k;
+    let at = 5 * k;
     Row {
         mark: table[at],
         total: table[at + 1],
-        deviation: table[at + 2],
-        squares: table[at + 3],
-        lows: table[at + 4],
-        highs: table[at + 5],
+        squares: table[at + 2],
+        lows: table[at + 3],
+        highs: table[at + 4],
     }
 }
 
 // Writes row k of a table.
 pub fn write_row(table: &mut [u64], k: usize, row: Row)
-    requires { ⌜ 6 * k + 6 ≤ length (now table) ⌝ }
+    requires { ⌜ 5 * k + 5 ≤ length (now table) ⌝ }
     ensures { λ _. ⌜ RowWritten k row (now (table .entry)) (now (table .exit)) ⌝ }
 {
-    let at = 6 * k;
+    let at = 5 * k;
     table[at] = row.mark;
     table[at + 1] = row.total;
-    table[at + 2] = row.deviation;
-    table[at + 3] = row.squares;
-    table[at + 4] = row.lows;
-    table[at + 5] = row.highs;
+    table[at + 2] = row.squares;
+    table[at + 3] = row.lows;
+    table[at + 4] = row.highs;
 }

@@ -1,22 +1,13 @@
 // Building the breakpoint table of a group.
 use crate::rows::Row;
-use model::numbers::apart;
 ghost use mathlib.Core.Path.{_≡_};
 ghost use Prim.Native.Nat.{suc, _+_, _*_, _≤_, _<_};
-ghost use Rattle.model.specs.Shares.{greatestShare, mostUnits};
+ghost use Rattle.model.specs.Shares.{greatestShare};
+ghost use Rattle.model.specs.Sound.{SoundRanges};
 ghost use lib.ListN.{length};
 ghost use Rattle.probe.specs.Inner.Walks.{First};
 ghost use Rattle.probe.specs.Inner.Steps.{Risen, RowReached, NextRow, Begun};
-ghost use Rattle.probe.specs.Inner.Tables.{SoundWithTotal, Sums, SpanTo, Movable, RowMoved, fromMean, square};
-
-// A share's part of the deviation.
-pub fn from_mean(count: u64, total: u64, x: u64) -> u64
-    requires { ⌜ count ≤ mostUnits ⌝ }
-    requires { ⌜ x ≤ suc greatestShare ⌝ }
-    ensures { λ r. ⌜ r ≡ fromMean count total x ⌝ }
-{
-    apart(count * x, total)
-}
+ghost use Rattle.probe.specs.Inner.Tables.{Sums, SpanTo, Movable, RowMoved, square};
 
 // A share's part of the sum of squares.
 pub fn square(x: u64) -> u64
@@ -35,24 +26,16 @@ fn moved(stored: u64, up: u64, down: u64, from: u64, to: u64) -> u64
 }
 
 // A row moved to a further level, with no bound between.
-fn row_at(lows: &[u64], highs: &[u64], total: u64, row: Row, mark: u64) -> Row
-    requires { ⌜ SoundWithTotal (now lows) (now highs) total ⌝ }
-    requires { ⌜ Sums (now lows) (now highs) total row ⌝ }
+fn row_at(lows: &[u64], highs: &[u64], row: Row, mark: u64) -> Row
+    requires { ⌜ SoundRanges (now lows) (now highs) ⌝ }
+    requires { ⌜ Sums (now lows) (now highs) row ⌝ }
     requires { ⌜ SpanTo (now lows) (now highs) row mark ⌝ }
     requires { ⌜ mark ≤ greatestShare ⌝ }
-    ensures { λ r. ⌜ RowMoved (now (lows .entry)) (now (highs .entry)) total row mark r ⌝ }
+    ensures { λ r. ⌜ RowMoved (now (lows .entry)) (now (highs .entry)) row mark r ⌝ }
 {
-    let count = lows.len() as u64;
     Row {
         mark,
         total: moved(row.total, row.lows, row.highs, row.mark, mark),
-        deviation: moved(
-            row.deviation,
-            row.lows,
-            row.highs,
-            from_mean(count, total, row.mark),
-            from_mean(count, total, mark),
-        ),
         squares: moved(
             row.squares,
             row.lows,
@@ -82,52 +65,41 @@ fn low_first(lows: &[u64], highs: &[u64], a: usize, b: usize) -> bool
 }
 
 // The row for the next bound on the way up.
-pub fn next_row(
-    lows: &[u64],
-    highs: &[u64],
-    starts: &[u64],
-    stops: &[u64],
-    total: u64,
-    row: Row,
-) -> Row
-    requires { ⌜ SoundWithTotal (now lows) (now highs) total ⌝ }
+pub fn next_row(lows: &[u64], highs: &[u64], starts: &[u64], stops: &[u64], row: Row) -> Row
+    requires { ⌜ SoundRanges (now lows) (now highs) ⌝ }
     requires { ⌜ Risen (now lows) (now highs) (now starts) (now stops) ⌝ }
-    requires { ⌜ RowReached (now lows) (now highs) (now starts) (now stops) total row ⌝ }
+    requires { ⌜ RowReached (now lows) (now highs) (now starts) (now stops) row ⌝ }
     requires { ⌜ row .lows + row .highs < 2 * length (now lows) ⌝ }
-    ensures { λ r. ⌜ NextRow (now (lows .entry)) (now (highs .entry)) (now (starts .entry)) (now (stops .entry)) total row r ⌝ }
+    ensures { λ r. ⌜ NextRow (now (lows .entry)) (now (highs .entry)) (now (starts .entry)) (now (stops .entry)) row r ⌝ }
 {
     let a = row.lows as usize;
     let b = row.highs as usize;
     if low_first(starts, stops, a, b) {
-        let mut low = row_at(lows, highs, total, row, starts[a]);
+        let mut low = row_at(lows, highs, row, starts[a]);
         low.lows += 1;
         return low;
     }
-    let mut high = row_at(lows, highs, total, row, stops[b]);
+    let mut high = row_at(lows, highs, row, stops[b]);
     high.highs += 1;
     high
 }
 
 // The row for level 0, at which the shares are the lows.
-pub fn first_row(lows: &[u64], highs: &[u64], total: u64) -> Row
-    requires { ⌜ SoundWithTotal (now lows) (now highs) total ⌝ }
-    ensures { λ r. ⌜ Begun (now (lows .entry)) (now (highs .entry)) total r ⌝ }
+pub fn first_row(lows: &[u64], highs: &[u64]) -> Row
+    requires { ⌜ SoundRanges (now lows) (now highs) ⌝ }
+    ensures { λ r. ⌜ Begun (now (lows .entry)) (now (highs .entry)) r ⌝ }
 {
-    let count = lows.len() as u64;
     let mut copies: u64 = 0;
-    let mut deviation: u64 = 0;
     let mut squares: u64 = 0;
     let mut i: usize = 0;
     while i < lows.len() {
         copies += lows[i];
-        deviation += from_mean(count, total, lows[i]);
         squares += square(lows[i]);
         i += 1;
     }
     Row {
         mark: 0,
         total: copies,
-        deviation,
         squares,
         lows: 0,
         highs: 0,

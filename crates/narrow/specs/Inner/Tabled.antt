@@ -13,19 +13,19 @@ use Rattle.model.specs.Shares.{mostUnits}
 -- a group with the table that its values are looked up in
 pub record Tabled (lows highs : List ℕ) (total : ℕ) (table : List ℕ) : Type 0 where
   pub sound : probed.SoundWithTotal lows highs total
-  pub held : probed.Breakpoints lows highs total table
+  pub held : probed.Breakpoints lows highs table
 
 -- room to work in for a group of n members
 pub record TableLists (n : ℕ) (starts stops table : List ℕ) : Type 0 where
   pub sizeStarts : length starts ≡ n
   pub sizeStops : length stops ≡ n
-  pub sizeTable : 6 * (2 * n) + 6 ≤ length table
+  pub sizeTable : 5 * (2 * n) + 5 ≤ length table
 
 -- arrays with such room for every group of n members that the checks let pass
 pub record TableRoom (n : ℕ) (starts stops table : List ℕ) : Type 0 where
   pub sizeStarts : n ≤ mostUnits → n ≤ length starts
   pub sizeStops : n ≤ mostUnits → n ≤ length stops
-  pub sizeTable : n ≤ mostUnits → 6 * (2 * n) + 6 ≤ length table
+  pub sizeTable : n ≤ mostUnits → 5 * (2 * n) + 5 ≤ length table
 
 -- a group of sound ranges that has a plan
 pub record HasPlan (lows highs : List ℕ) (total : ℕ) (limits : Limits) : Type 0 where

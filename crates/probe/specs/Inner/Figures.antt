@@ -9,7 +9,7 @@ use Rattle.probe.specs.Inner.Tables.{greatestPart}
 abbrev pub Moves : (ℕ → ℕ) → ℕ → ℕ → ℕ → ℕ → Reach → ℕ → Type 0
 Moves f stored mark own v reach r =
     r + (f own + (reach .growing * f mark + reach .over * f (reach .level)))
-    ≡ stored + (f v + (reach .growing * f (reach .level) + reach .over * f (suc (reach .level))))
+    ≡ stored + f v + (reach .growing * f (reach .level) + reach .over * f (suc (reach .level)))
 
 -- it can be computed
 pub record Summable (f : ℕ → ℕ) (stored mark own v : ℕ) (reach : Reach) : Type 0 where
@@ -21,13 +21,12 @@ pub record Summable (f : ℕ → ℕ) (stored mark own v : ℕ) (reach : Reach) 
   pub growingFew : reach .growing ≤ mostUnits
   pub overFew : reach .over ≤ mostUnits
   pub fits : f own + (reach .growing * f mark + reach .over * f (reach .level))
-      ≤ stored + (f v + (reach .growing * f (reach .level) + reach .over * f (suc (reach .level))))
+      ≤ stored + f v + (reach .growing * f (reach .level) + reach .over * f (suc (reach .level)))
 
 -- the parts of such a sum
-pub record Parts (stored own value : ℕ) (reach : Reach) (from to next : ℕ) : Type 0 where
-  pub storedSmall : stored ≤ mostUnits * greatestPart
+pub record Parts (sum own : ℕ) (reach : Reach) (from to next : ℕ) : Type 0 where
+  pub sumSmall : sum ≤ mostUnits * greatestPart + greatestPart
   pub ownSmall : own ≤ greatestPart
-  pub valueSmall : value ≤ greatestPart
   pub movedSmall : (reach .growing * from ≤ mostUnits * greatestPart) × (reach .growing * to ≤ mostUnits * greatestPart)
   pub overSmall : (reach .over * to ≤ mostUnits * greatestPart) × (reach .over * next ≤ mostUnits * greatestPart)
-  pub fits : own + (reach .growing * from + reach .over * to) ≤ stored + (value + (reach .growing * to + reach .over * next))
+  pub fits : own + (reach .growing * from + reach .over * to) ≤ sum + (reach .growing * to + reach .over * next)

@@ -9,12 +9,11 @@ use Rattle.probe.specs.declared.rows.Row.{Row}
 -- row k of a table
 unfoldable pub rowAt : List ℕ → ℕ → Row
 rowAt table k = record {
-  mark = getD table (6 * k) 0;
-  total = getD table (6 * k + 1) 0;
-  deviation = getD table (6 * k + 2) 0;
-  squares = getD table (6 * k + 3) 0;
-  lows = getD table (6 * k + 4) 0;
-  highs = getD table (6 * k + 5) 0;
+  mark = getD table (5 * k) 0;
+  total = getD table (5 * k + 1) 0;
+  squares = getD table (5 * k + 2) 0;
+  lows = getD table (5 * k + 3) 0;
+  highs = getD table (5 * k + 4) 0;
 }
 
 -- row k is written, and every other row is as it was

@@ -14,20 +14,20 @@ pub record Risen (lows highs starts stops : List ℕ) : Type 0 where
   pub startsFrom : Ordered 1 (length lows) lows starts
   pub stopsFrom : Ordered 1 (length highs) highs stops
 
-pub record RowReached (lows highs starts stops : List ℕ) (total : ℕ) (row : Row) : Type 0 where
-  pub sums : Sums lows highs total row
+pub record RowReached (lows highs starts stops : List ℕ) (row : Row) : Type 0 where
+  pub sums : Sums lows highs row
   pub partedLows : Parted (row .mark) (row .mark) (row .lows) starts
   pub partedHighs : Parted (row .mark) (row .mark) (row .highs) stops
 
 -- the row for the next bound
-pub record NextRow (lows highs starts stops : List ℕ) (total : ℕ) (row after : Row) : Type 0 where
+pub record NextRow (lows highs starts stops : List ℕ) (row after : Row) : Type 0 where
   pub span : SpanTo lows highs row (after .mark)
-  pub walk : RowReached lows highs starts stops total after
+  pub walk : RowReached lows highs starts stops after
   pub counted : after .lows + after .highs ≡ suc (row .lows + row .highs)
 
 -- the row for level 0
-pub record Begun (lows highs : List ℕ) (total : ℕ) (row : Row) : Type 0 where
-  pub sums : Sums lows highs total row
+pub record Begun (lows highs : List ℕ) (row : Row) : Type 0 where
+  pub sums : Sums lows highs row
   pub at : row .mark ≡ 0
   pub noLows : row .lows ≡ 0
   pub noHighs : row .highs ≡ 0

@@ -4,7 +4,6 @@ use mathlib.Core.List.{List}
 use mathlib.Core.Path.{_≡_}
 use lib.ListN.{length}
 use Rattle.model.specs.Shares.{Ranges, greatestShare, greatestTotal, sumOf, mostUnits}
-use Rattle.model.specs.Figures.{apart}
 use Rattle.model.specs.Levels.{clamped}
 use Rattle.probe.specs.declared.rows.Row.{Row}
 use Rattle.probe.specs.Inner.Rows.{rowAt}
@@ -17,21 +16,17 @@ pub record SoundWithTotal (lows highs : List ℕ) (total : ℕ) : Type 0 where
   pub few : length lows ≤ mostUnits
   pub small : total ≤ greatestTotal
 
--- a share's part of T, of the deviation and of the sum of squares
+-- a share's part of T and of the sum of squares
 abbrev pub itself : ℕ → ℕ
 itself x = x
-
-abbrev pub fromMean : ℕ → ℕ → ℕ → ℕ
-fromMean n total x = apart (n * x) total
 
 abbrev pub square : ℕ → ℕ
 square x = x * x
 
 -- each row's level is a share, its sums are those of the shares there, and it counts bounds of the group
-pub record Sums (lows highs : List ℕ) (total : ℕ) (row : Row) : Type 0 where
+pub record Sums (lows highs : List ℕ) (row : Row) : Type 0 where
   pub share : row .mark ≤ greatestShare
   pub totals : row .total ≡ sumOf itself (clamped lows highs (row .mark))
-  pub deviations : row .deviation ≡ sumOf (fromMean (length lows) total) (clamped lows highs (row .mark))
   pub squares : row .squares ≡ sumOf square (clamped lows highs (row .mark))
   pub fewLows : row .lows ≤ length lows
   pub fewHighs : row .highs ≤ length lows
@@ -41,10 +36,10 @@ abbrev pub SpanTo : List ℕ → List ℕ → Row → ℕ → Type 0
 SpanTo lows highs row w = Span lows highs (row .mark) w (row .lows) (row .highs)
 
 -- the breakpoint table of a group: a row for level 0 and one for each bound, rising
-pub record Breakpoints (lows highs : List ℕ) (total : ℕ) (table : List ℕ) : Type 0 where
-  pub room : 6 * (2 * length lows) + 6 ≤ length table
+pub record Breakpoints (lows highs table : List ℕ) : Type 0 where
+  pub room : 5 * (2 * length lows) + 5 ≤ length table
   pub first : rowAt table 0 .mark ≡ 0
-  pub sums : (k : ℕ) → k ≤ 2 * length lows → Sums lows highs total (rowAt table k)
+  pub sums : (k : ℕ) → k ≤ 2 * length lows → Sums lows highs (rowAt table k)
   pub spans : (k : ℕ) → k < 2 * length lows → SpanTo lows highs (rowAt table k) (rowAt table (suc k) .mark)
   pub last : SpanTo lows highs (rowAt table (2 * length lows)) (suc greatestShare)
   pub all : rowAt table (2 * length lows) .lows ≡ rowAt table (2 * length lows) .highs
@@ -63,8 +58,8 @@ pub record Movable (stored a b from to : ℕ) : Type 0 where
   pub fits : a * from + b * to ≤ stored + (a * to + b * from)
 
 -- a row moved to a further level
-pub record RowMoved (lows highs : List ℕ) (total : ℕ) (row : Row) (mark : ℕ) (after : Row) : Type 0 where
-  pub sums : Sums lows highs total after
+pub record RowMoved (lows highs : List ℕ) (row : Row) (mark : ℕ) (after : Row) : Type 0 where
+  pub sums : Sums lows highs after
   pub at : after .mark ≡ mark
   pub sameLows : after .lows ≡ row .lows
   pub sameHighs : after .highs ≡ row .highs

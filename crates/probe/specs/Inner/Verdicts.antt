@@ -9,6 +9,8 @@ use Rattle.model.specs.Levels.{levelled}
 use Rattle.model.specs.Plans.{hasPlan}
 use Rattle.model.specs.declared.Figures.{Figures}
 use Rattle.model.specs.declared.Limits.{Limits}
+use Rattle.probe.specs.declared.sides.Sides.{Sides}
+use Rattle.probe.specs.Inner.Sides.{BothSides}
 use Rattle.probe.specs.Inner.Tables.{SoundWithTotal, Breakpoints}
 use Rattle.probe.specs.Inner.Pinned.{Pin}
 use Rattle.probe.specs.Inner.Probes.{InReach}
@@ -24,9 +26,10 @@ pub record PinnedFigures (lows highs : List ℕ) (low high v total : ℕ) (figur
   pub is : {lows′ highs′ : List ℕ} → Pin lows highs low high v lows′ highs′ → figures ≡ figuresOf (length lows′) total (levelled lows′ highs′ total)
 
 -- a value that the other members can make up for
-pub record Triable (lows highs table : List ℕ) (total low high v : ℕ) : Type 0 where
+pub record Triable (lows highs table : List ℕ) (total : ℕ) (sides : Sides) (low high v : ℕ) : Type 0 where
   pub sound : SoundWithTotal lows highs total
-  pub held : Breakpoints lows highs total table
+  pub held : Breakpoints lows highs table
+  pub summed : BothSides lows highs total sides
   pub asked : Asked lows highs low high v
   pub reach : InReach table (2 * length lows) low high v total
 

@@ -1,5 +1,5 @@
 -- The pinned group's figures at the level reached, from the row's sums. Assumes nothing.
-use Prim.Native.Nat.{ℕ, suc, _≤_}
+use Prim.Native.Nat.{ℕ, suc, _+_, _≤_}
 use mathlib.Core.List.{List}
 use mathlib.Core.Path.{_≡_}
 use native.Mathlib.Nat.{mul-le-mul}
@@ -38,11 +38,10 @@ module _ {lows highs lows′ highs′ : List ℕ} {total low high v mark : ℕ} 
 
 -- they are small for every f that is
 pub parts : {f : ℕ → ℕ} {stored mark own v : ℕ} {reach : Reach} → Small f → Summable f stored mark own v reach
-    → Parts stored (f own) (f v) reach (f mark) (f (reach .level)) (f (suc (reach .level)))
+    → Parts (stored + f v) (f own) reach (f mark) (f (reach .level)) (f (suc (reach .level)))
 parts {f} {stored} {mark} {own} {v} {reach} small s = record {
-  storedSmall = s .storedSmall;
+  sumSmall = omega (arith, s .storedSmall, small v (omega (arith, s .valueShare)));
   ownSmall = small own (omega (arith, s .ownShare));
-  valueSmall = small v (omega (arith, s .valueShare));
   movedSmall = (
     mul-le-mul (s .growingFew) (small mark (omega (arith, s .markShare))),
     mul-le-mul (s .growingFew) (small (reach .level) (omega (arith, s .levelShare))),

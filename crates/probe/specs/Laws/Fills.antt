@@ -5,27 +5,28 @@ use mathlib.Core.Path.{_≡_}
 use native.Mathlib.Decide.{ℕ-discrete}
 use native.Mathlib.Omega.{arith}
 use lib.ListN.{length}
+use Rattle.model.specs.Sound.{SoundRanges}
 use Rattle.probe.specs.declared.rows.Row.{Row}
 use Rattle.probe.specs.Inner.Rows.{rowAt, RowWritten}
 use Rattle.probe.specs.Laws.Spans.{span}
 use Rattle.probe.specs.Laws.Walks.{parted-none, parted-all}
-use Rattle.probe.specs.Inner.Tables.{SoundWithTotal, Sums, SpanTo, Breakpoints}
+use Rattle.probe.specs.Inner.Tables.{Sums, SpanTo, Breakpoints}
 use Rattle.probe.specs.Inner.Steps.{Risen, RowReached, NextRow, Begun}
 
 -- the rows up to k are filled
-pub record RowsTo (lows highs starts stops : List ℕ) (total k : ℕ) (table : List ℕ) : Type 0 where
-  pub room : 6 * (2 * length lows) + 6 ≤ length table
+pub record RowsTo (lows highs starts stops : List ℕ) (k : ℕ) (table : List ℕ) : Type 0 where
+  pub room : 5 * (2 * length lows) + 5 ≤ length table
   pub few : k ≤ 2 * length lows
   pub first : rowAt table 0 .mark ≡ 0
-  pub sums : (j : ℕ) → j ≤ k → Sums lows highs total (rowAt table j)
+  pub sums : (j : ℕ) → j ≤ k → Sums lows highs (rowAt table j)
   pub spans : (j : ℕ) → j < k → SpanTo lows highs (rowAt table j) (rowAt table (suc j) .mark)
-  pub walk : RowReached lows highs starts stops total (rowAt table k)
+  pub walk : RowReached lows highs starts stops (rowAt table k)
   pub counted : rowAt table k .lows + rowAt table k .highs ≡ k
 
-module _ {lows highs starts stops : List ℕ} {total : ℕ} where
+module _ {lows highs starts stops : List ℕ} where
   -- the first row
-  pub filled-first : {row : Row} {before table : List ℕ} → 6 * (2 * length lows) + 6 ≤ length before
-      → Begun lows highs total row → RowWritten 0 row before table → RowsTo lows highs starts stops total 0 table
+  pub filled-first : {row : Row} {before table : List ℕ} → 5 * (2 * length lows) + 5 ≤ length before
+      → Begun lows highs row → RowWritten 0 row before table → RowsTo lows highs starts stops 0 table
   filled-first {row} {before} {table} room begun put = record {
     room = rw (put .same) room;
     few = omega arith;
@@ -41,9 +42,9 @@ module _ {lows highs starts stops : List ℕ} {total : ℕ} where
   }
 
   -- one row more
-  pub rows-next : {k : ℕ} {row : Row} {before table : List ℕ} → RowsTo lows highs starts stops total k before → k < 2 * length lows
-      → NextRow lows highs starts stops total (rowAt before k) row → RowWritten (suc k) row before table
-      → RowsTo lows highs starts stops total (suc k) table
+  pub rows-next : {k : ℕ} {row : Row} {before table : List ℕ} → RowsTo lows highs starts stops k before → k < 2 * length lows
+      → NextRow lows highs starts stops (rowAt before k) row → RowWritten (suc k) row before table
+      → RowsTo lows highs starts stops (suc k) table
   rows-next {k} {row} {before} {table} filled more stepped put =
       let kept : (j : ℕ) → j ≤ k → rowAt table j ≡ rowAt before j = (λ j h. put .others j (λ e. omega arith)) in
       record {
@@ -63,8 +64,8 @@ module _ {lows highs starts stops : List ℕ} {total : ℕ} where
       }
 
   -- all rows: every bound is passed
-  pub rows-all : {k : ℕ} {table : List ℕ} → SoundWithTotal lows highs total → Risen lows highs starts stops
-      → RowsTo lows highs starts stops total k table → 2 * length lows ≤ k → Breakpoints lows highs total table
+  pub rows-all : {k : ℕ} {table : List ℕ} → SoundRanges lows highs → Risen lows highs starts stops
+      → RowsTo lows highs starts stops k table → 2 * length lows ≤ k → Breakpoints lows highs table
   rows-all {k} {table} sound risen filled past =
       let full : 2 * length lows ≡ k = omega (arith, filled .few) in
       let end : Row = rowAt table k in

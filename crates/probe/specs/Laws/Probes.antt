@@ -18,7 +18,7 @@ use Rattle.probe.specs.Inner.Pinned.{Pin, Reached}
 use Rattle.probe.specs.Laws.Pinned.{pinned-span, grows, reached-mark, reached-between}
 use Rattle.probe.specs.Inner.Probes.{pinnedTotal, Pinnable, Probeable, LastWithin, Divided}
 
-module _ {lows highs table lows′ highs′ : List ℕ} {total low high v : ℕ} (sound : SoundWithTotal lows highs total) (held : Breakpoints lows highs total table)
+module _ {lows highs table lows′ highs′ : List ℕ} {total low high v : ℕ} (sound : SoundWithTotal lows highs total) (held : Breakpoints lows highs table)
     (pin : Pin lows highs low high v lows′ highs′) where
   -- the pinned group's T at a row's level is what is computed from the row
   module _ (k : ℕ) (upTo : k ≤ 2 * length lows) where

@@ -21,7 +21,7 @@ pub reach-between : {table : List ℕ} {last low high a b total : ℕ} → InRea
 unfolding pinnedTotal
 reach-between from upTo m above below = record { least = omega (arith, upTo .least); greatest = omega (arith, from .greatest) }
 
-module _ {lows highs table : List ℕ} {total : ℕ} (sound : SoundWithTotal lows highs total) (held : Breakpoints lows highs total table) where
+module _ {lows highs table : List ℕ} {total : ℕ} (sound : SoundWithTotal lows highs total) (held : Breakpoints lows highs table) where
   -- a group that has shares is in reach itself
   pub shares-reach : sum lows ≤ total → total ≤ sum highs → InReach table (2 * length lows) 0 0 0 total
   shares-reach least greatest = record {

@@ -30,26 +30,26 @@ sets-at (v ∷ vs) xs p (suc i) h room =
 
 -- the numbers of a row, in order
 abbrev pub numbers : Row → List ℕ
-numbers row = row .mark ∷ row .total ∷ row .deviation ∷ row .squares ∷ row .lows ∷ row .highs ∷ []
+numbers row = row .mark ∷ row .total ∷ row .squares ∷ row .lows ∷ row .highs ∷ []
 
 -- rows with the same numbers are the same
-same-row : (a b : Row) → a .mark ≡ b .mark → a .total ≡ b .total → a .deviation ≡ b .deviation → a .squares ≡ b .squares
+same-row : (a b : Row) → a .mark ≡ b .mark → a .total ≡ b .total → a .squares ≡ b .squares
     → a .lows ≡ b .lows → a .highs ≡ b .highs → a ≡ b
-same-row a b m t d s l h = λ i. record { mark = m i; total = t i; deviation = d i; squares = s i; lows = l i; highs = h i }
+same-row a b m t s l h = λ i. record { mark = m i; total = t i; squares = s i; lows = l i; highs = h i }
 
 -- a row's numbers written from its place on
-pub row-written : (k : ℕ) (row : Row) (table : List ℕ) → 6 * k + 6 ≤ length table → RowWritten k row table (sets table (6 * k) (numbers row))
+pub row-written : (k : ℕ) (row : Row) (table : List ℕ) → 5 * k + 5 ≤ length table → RowWritten k row table (sets table (5 * k) (numbers row))
 unfolding rowAt
 row-written k row table room =
-    let first : (j : ℕ) → 6 * j + 0 ≡ 6 * j = (λ j. omega arith) in
-    let after : List ℕ = sets table (6 * k) (numbers row) in
-    let at : (i : ℕ) → i < 6 → getD after (6 * k + i) 0 ≡ getD (numbers row) i 0 =
-    (λ i h. sets-at (numbers row) table (6 * k) i h room) in
+    let first : (j : ℕ) → 5 * j + 0 ≡ 5 * j = (λ j. omega arith) in
+    let after : List ℕ = sets table (5 * k) (numbers row) in
+    let at : (i : ℕ) → i < 5 → getD after (5 * k + i) 0 ≡ getD (numbers row) i 0 =
+    (λ i h. sets-at (numbers row) table (5 * k) i h room) in
     record {
-      same = length-sets table (6 * k) (numbers row);
-      here = same-row _ _ (rw first at (at 0 (omega arith))) (at 1 (omega arith)) (at 2 (omega arith)) (at 3 (omega arith)) (at 4 (omega arith)) (at 5 (omega arith));
+      same = length-sets table (5 * k) (numbers row);
+      here = same-row _ _ (rw first at (at 0 (omega arith))) (at 1 (omega arith)) (at 2 (omega arith)) (at 3 (omega arith)) (at 4 (omega arith));
       others = λ j not.
-          let kept : (i : ℕ) → i < 6 → getD after (6 * j + i) 0 ≡ getD table (6 * j + i) 0 =
-          (λ i h. sets-other (numbers row) table (6 * k) (6 * j + i) (λ p q e. not (omega arith))) in
-          same-row _ _ (rw first at (kept 0 (omega arith))) (kept 1 (omega arith)) (kept 2 (omega arith)) (kept 3 (omega arith)) (kept 4 (omega arith)) (kept 5 (omega arith));
+          let kept : (i : ℕ) → i < 5 → getD after (5 * j + i) 0 ≡ getD table (5 * j + i) 0 =
+          (λ i h. sets-other (numbers row) table (5 * k) (5 * j + i) (λ p q e. not (omega arith))) in
+          same-row _ _ (rw first at (kept 0 (omega arith))) (kept 1 (omega arith)) (kept 2 (omega arith)) (kept 3 (omega arith)) (kept 4 (omega arith));
     }

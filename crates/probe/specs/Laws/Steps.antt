@@ -6,12 +6,13 @@ use native.Mathlib.Numerals.{add-one}
 use native.Mathlib.Omega.{arith}
 use lib.ListN.{length, getD}
 use Rattle.model.specs.Shares.{greatestShare}
+use Rattle.model.specs.Sound.{SoundRanges}
 use Rattle.model.specs.Laws.Lists.{ranges-at}
 use Rattle.probe.specs.declared.rows.Row.{Row}
 use Rattle.probe.specs.Inner.Orders.{RisingBy}
 use Rattle.probe.specs.Laws.Spans.{span}
 use Rattle.probe.specs.Laws.Walks.{rearranged-small, next-up, passes-none, passed-none, passed-one}
-use Rattle.probe.specs.Inner.Tables.{SoundWithTotal, Sums, SpanTo, RowMoved}
+use Rattle.probe.specs.Inner.Tables.{Sums, SpanTo, RowMoved}
 use Rattle.probe.specs.Inner.Steps.{Risen, RowReached, NextRow}
 
 -- a row with other numbers of bounds passed: one low more, or one high more
@@ -19,7 +20,6 @@ abbrev withPassed : Row → ℕ → ℕ → Row
 withPassed row a b = record {
   mark = row .mark;
   total = row .total;
-  deviation = row .deviation;
   squares = row .squares;
   lows = a;
   highs = b;
@@ -32,18 +32,17 @@ abbrev pub highPassed : Row → Row
 highPassed row = withPassed row (row .lows) (row .highs + 1)
 
 -- its sums are the same
-still-sums : {lows highs : List ℕ} {total : ℕ} {row : Row} {a b : ℕ} → Sums lows highs total row → a ≤ length lows → b ≤ length lows
-    → Sums lows highs total (withPassed row a b)
+still-sums : {lows highs : List ℕ} {row : Row} {a b : ℕ} → Sums lows highs row → a ≤ length lows → b ≤ length lows
+    → Sums lows highs (withPassed row a b)
 still-sums sums few-lows few-highs = record {
   share = sums .share;
   totals = sums .totals;
-  deviations = sums .deviations;
   squares = sums .squares;
   fewLows = few-lows;
   fewHighs = few-highs;
 }
 
-module _ {lows highs starts stops : List ℕ} {total : ℕ} (sound : SoundWithTotal lows highs total) (risen : Risen lows highs starts stops) where
+module _ {lows highs starts stops : List ℕ} (sound : SoundRanges lows highs) (risen : Risen lows highs starts stops) where
   -- every bound is a share
   start-small : (i : ℕ) → i < length starts → getD starts i 0 ≤ greatestShare
   start-small = rearranged-small greatestShare (risen .startsFrom .rearranged) (λ i below. omega (arith, ranges-at (sound .ranges) i below))
@@ -58,7 +57,7 @@ module _ {lows highs starts stops : List ℕ} {total : ℕ} (sound : SoundWithTo
   stops-rise : RisingBy 1 (length stops) stops
   stops-rise = rw (risen .stopsFrom .same) (risen .stopsFrom .rising)
 
-  module _ {row : Row} (walk : RowReached lows highs starts stops total row) where
+  module _ {row : Row} (walk : RowReached lows highs starts stops row) where
     -- where the next bound is w, no bound lies between
     span-next : (w : ℕ) → row .mark ≤ w
         → (row .lows < length starts → w ≤ getD starts (row .lows) 0)
@@ -78,8 +77,8 @@ module _ {lows highs starts stops : List ℕ} {total : ℕ} (sound : SoundWithTo
       low-next = (span-next _ low-up (λ h. le-refl _) (first .1), start-small (row .lows) (first .0))
 
       -- and the row for it has one low more passed
-      pub low-stepped : {after : Row} → RowMoved lows highs total row (getD starts (row .lows) 0) after
-          → NextRow lows highs starts stops total row (lowPassed after)
+      pub low-stepped : {after : Row} → RowMoved lows highs row (getD starts (row .lows) 0) after
+          → NextRow lows highs starts stops row (lowPassed after)
       low-stepped m = record {
         span = rw (m .at) (low-next .0);
         walk = record {
@@ -99,8 +98,8 @@ module _ {lows highs starts stops : List ℕ} {total : ℕ} (sound : SoundWithTo
       high-next = (span-next _ high-up (first .1) (λ h. le-refl _), stop-small (row .highs) (first .0))
 
       -- and the row for it has one high more passed
-      pub high-stepped : {after : Row} → RowMoved lows highs total row (getD stops (row .highs) 0) after
-          → NextRow lows highs starts stops total row (highPassed after)
+      pub high-stepped : {after : Row} → RowMoved lows highs row (getD stops (row .highs) 0) after
+          → NextRow lows highs starts stops row (highPassed after)
       high-stepped m = record {
         span = rw (m .at) (high-next .0);
         walk = record {

@@ -5,20 +5,18 @@ use mathlib.Core.Path.{_≡_}
 use native.Mathlib.Nat.{mul-le-mul}
 use native.Mathlib.Omega.{arith}
 use lib.ListN.{length}
-use Rattle.model.specs.Shares.{Ranges, greatestShare, greatestTotal, sumOf, mostUnits}
+use Rattle.model.specs.Shares.{Ranges, greatestShare, sumOf, mostUnits}
+use Rattle.model.specs.Sound.{SoundRanges}
 use Rattle.model.specs.Levels.{clamp, clamped}
 use Rattle.model.specs.Laws.Level.{clamp-at-most}
 use Rattle.probe.specs.Inner.Spans.{Span}
-use Rattle.probe.specs.Inner.Tables.{SoundWithTotal, itself, fromMean, square, greatestPart, Movable}
+use Rattle.probe.specs.Inner.Tables.{itself, square, greatestPart, Movable}
 
 abbrev pub Small : (ℕ → ℕ) → Type 0
 Small f = (x : ℕ) → x ≤ suc greatestShare → f x ≤ greatestPart
 
 pub small-itself : Small itself
 small-itself x share = omega arith
-
-pub small-mean : {n total : ℕ} → n ≤ mostUnits → total ≤ greatestTotal → Small (fromMean n total)
-small-mean few small x share = omega (arith, mul-le-mul few share)
 
 pub small-square : Small square
 small-square x share = omega (arith, mul-le-mul share share)
@@ -43,7 +41,7 @@ products-small m = (
 
 module _ {lows highs : List ℕ} {m w a b : ℕ} (span : Span lows highs m w a b) (f : ℕ → ℕ) {stored : ℕ} (held : stored ≡ sumOf f (clamped lows highs m)) where
   -- a sum at m may be moved to w
-  pub movable : {total : ℕ} → SoundWithTotal lows highs total → a ≤ length lows → b ≤ length lows → w ≤ greatestShare → Small f → Movable stored a b (f m) (f w)
+  pub movable : SoundRanges lows highs → a ≤ length lows → b ≤ length lows → w ≤ greatestShare → Small f → Movable stored a b (f m) (f w)
   movable sound fewLows fewHighs share small = record {
     storedSmall = omega (arith, clamped-small (sound .ranges) small m, sound .few);
     upSmall = omega (arith, sound .few);

@@ -21,7 +21,7 @@ use Rattle.model.specs.Laws.Spread.{cauchy-schwarz, sumOf-bound}
 use Rattle.model.specs.Laws.Tests.{right-fails}
 use Rattle.probe.specs.declared.rows.Row.{Row}
 use Rattle.probe.specs.Inner.Rows.{rowAt}
-use Rattle.probe.specs.Inner.Tables.{SoundWithTotal, Breakpoints, greatestPart, itself, fromMean, square}
+use Rattle.probe.specs.Inner.Tables.{SoundWithTotal, Breakpoints, greatestPart, itself, square}
 use Rattle.probe.specs.Laws.Tables.{Small, small-square}
 use Rattle.probe.specs.Inner.Pinned.{Pin, Reached}
 use Rattle.probe.specs.Laws.Pinned.{pinned-span, reached-adds, reached-figures}
@@ -44,12 +44,12 @@ total-itself lows highs w = sum-sumOf (clamped lows highs w)
 
 module _ {lows highs lows′ highs′ : List ℕ} {total low high v : ℕ} (sound : SoundWithTotal lows highs total) (pin : Pin lows highs low high v lows′ highs′) where
   module _ {m c w r : ℕ} (reached : Reached lows′ highs′ total m c w r) {d q : ℕ}
-      (is-deviation : d ≡ sumOf (fromMean (length lows) total) (topped lows′ highs′ w r))
+      (is-deviation : d ≡ deviation (length lows) total (topped lows′ highs′ w r))
       (is-squares : q ≡ sumOf square (topped lows′ highs′ w r)) where
     -- the figures at the level reached are those of the pinned group's levelled shares
     pub pinned-figures : record { deviation = record { 0 = d }; spread = record { 0 = length lows * q - total * total } }
         ≡ figuresOf (length lows′) total (levelled lows′ highs′ total)
-    unfolding deviation spread
+    unfolding spread
     pinned-figures = rw (reached-figures (pin .ranges) reached (length lows′), pin .count, is-deviation, is-squares)
 
     -- the spread does not go below zero, nor past what a number holds
@@ -63,7 +63,7 @@ module _ {lows highs lows′ highs′ : List ℕ} {total low high v : ℕ} (soun
         let few : q ≤ mostUnits * greatestPart = omega (arith, topped-small (pin .ranges) small-square w r, pin .count, sound .few) in
         mul-le-mul (sound .few) few
 
-  module _ {table : List ℕ} (held : Breakpoints lows highs total table) where
+  module _ {table : List ℕ} (held : Breakpoints lows highs table) where
     -- the pinned lows and highs add up to T at the first and at the last row
     pub least-total : sum lows′ ≡ pinnedTotal (rowAt table 0) low high v
     least-total =

@@ -15,12 +15,12 @@ use Rattle.narrow.proofs.ends.edge.Statement.{statement}
 use Rattle.narrow.proofs.ends.edge.Tie as tie
 
 abbrev Inv-loop : tie.InvT-loop
-Inv-loop lows highs table question member low high outer₀ inner₀ inward₀ row₀ tries₀ outer inner inward row tries =
+Inv-loop lows highs table question sides member low high outer₀ inner₀ inward₀ row₀ tries₀ outer inner inward row tries =
     Straddle (taken lows highs (question .total) (question .limits) member) outer₀ inner₀ outer inner
     × Search lows highs table (question .total) (question .limits) member outer inner
 
 abbrev μ-loop : tie.MeasureT-loop
-μ-loop lows highs table question member low high outer₀ inner₀ inward₀ row₀ tries₀ outer inner inward row tries = apart outer inner
+μ-loop lows highs table question sides member low high outer₀ inner₀ inward₀ row₀ tries₀ outer inner inward row tries = apart outer inner
 
 mul-low : tie.Need-mul-low Inv-loop μ-loop
 mul-low c = search needs
@@ -36,7 +36,7 @@ shared-slice-read-high c = search needs
 
 loop-holds : tie.Need-loop-holds Inv-loop μ-loop
 loop-holds c =
-    let p = c .before .before .before .before .before .pre in
+    let p = c .before .before .before .before .before .pre .0 in
     (straddle-start _ _ _ (p .fails) (p .way .passes), p)
 
 apart-requires : tie.Need-apart-requires Inv-loop μ-loop
@@ -67,7 +67,7 @@ module _ (c : tie.After-next-value Inv-loop μ-loop) where
       amid-nearer (omega arith) (way .small) (way .share-small) (c .next-value .ensures)
 
 try-value-requires : tie.Need-try-value-requires Inv-loop μ-loop
-try-value-requires c κs = search-triable (turn c .loop .inv .1) (c .next-value .ensures) (nearer c .2)
+try-value-requires c κs = search-triable (turn c .loop .inv .1) (c .next-value .ensures) (nearer c .2) (start c .pre .1)
 
 fewer-requires : tie.Need-fewer-requires Inv-loop μ-loop
 fewer-requires c κs = search needs

@@ -13,7 +13,7 @@ use Rattle.narrow.proofs.ends.farthest_taken.Statement.{statement}
 use Rattle.narrow.proofs.ends.farthest_taken.Tie as tie
 
 returns : tie.Need-returns
-returns c = Reaches.whole (rw (c .if1 .taken) (c .before .before .before .before .before .pre .passes))
+returns c = Reaches.whole (rw (c .if1 .taken) (c .before .before .before .before .before .pre .0 .passes))
 
 mul-low : tie.Need-mul-low
 mul-low c = search needs
@@ -32,7 +32,7 @@ mul-last c = search needs
 
 into-reach-requires : tie.Need-into-reach-requires
 into-reach-requires c κs =
-    let way = c .before .before .before .before .before .before .before .pre in
+    let way = c .before .before .before .before .before .before .before .pre .0 in
     (probes way _ (way .small), (way .tabled .sound .small, room way))
 
 -- what the move gives
@@ -56,13 +56,13 @@ module _ (c : tie.After-into-reach) where
   i = start .args .way .member
 
   way : Approach lows highs (start .args .table .now) total limits i (start .args .way .end) (start .args .way .share)
-  way = start .pre
+  way = start .pre .0
 
   there : MovedIntoReach way (c .into-reach .result)
   there = moved way (c .into-reach .ensures)
 
 try-value-requires : tie.Need-try-value-requires
-try-value-requires c κs = triable (way c) _ (there c .small) (there c .inReach)
+try-value-requires c κs = triable (way c) _ (there c .small) (start c .pre .1) (there c .inReach)
 
 -- what the trial tells
 module _ (c : tie.After-try-value) where
@@ -90,7 +90,7 @@ module _ (e : tie.Else2) where
       }
 
 edge-requires : tie.Need-edge-requires
-edge-requires c κs = searched c
+edge-requires c κs = (searched c, start (from c) .pre .1)
 
 returns-3 : tie.Need-returns-3
 returns-3 c =

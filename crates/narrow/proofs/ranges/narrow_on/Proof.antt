@@ -14,6 +14,7 @@ use Rattle.model.specs.Laws.Turns.{found-turn}
 use Rattle.model.specs.Laws.Writing.{Filled, filled-none, filled-more, filled-all}
 use Rattle.model.specs.Laws.Walk.{Ahead, ahead-share, ahead-step}
 use Rattle.probe.specs.Inner.Probes.{InReach}
+use Rattle.probe.specs.Inner.Sides.{BothSides}
 use Rattle.probe.specs.Laws.Reaching.{shares-reach}
 use Rattle.model.specs.Laws.Bounds.{share-at-small}
 use Rattle.model.specs.Laws.Sound.{shares-had}
@@ -24,14 +25,14 @@ use Rattle.narrow.proofs.ranges.narrow_on.Statement.{statement}
 use Rattle.narrow.proofs.ranges.narrow_on.Tie as tie
 
 abbrev Inv-loop : tie.InvT-loop
-Inv-loop lows highs table question starts₀ stops₀ row v left₀ i₀ starts stops left i =
+Inv-loop lows highs table question starts₀ stops₀ sides row v left₀ i₀ starts stops left i =
     (i ≤ length lows)
     × Filled (narrowedLows lows highs (question .total) (question .limits)) starts₀ starts i
     × Filled (narrowedHighs lows highs (question .total) (question .limits)) stops₀ stops i
     × Ahead lows highs v left₀ left i
 
 abbrev μ-loop : tie.MeasureT-loop
-μ-loop lows highs table question starts₀ stops₀ row v left₀ i₀ starts stops left i = length lows - i
+μ-loop lows highs table question starts₀ stops₀ sides row v left₀ i₀ starts stops left i = length lows - i
 
 -- the narrowed lists are as long as the group
 module _ (s : tie.Start Inv-loop μ-loop) where
@@ -45,19 +46,22 @@ module _ (s : tie.Start Inv-loop μ-loop) where
 in-reach : (s : tie.Start Inv-loop μ-loop) → InReach (s .args .table .now) (2 * length (s .args .lows .now)) 0 0 0 (s .args .question .total)
 in-reach s = shares-reach (s .pre .1 .0 .sound) (s .pre .1 .0 .held) (s .pre .0 .low) (s .pre .0 .high)
 
+both-sides-requires : tie.Need-both-sides-requires Inv-loop μ-loop
+both-sides-requires c κs = c .before .before .before .before .before .pre .1 .0 .sound
+
 level-on-requires : tie.Need-level-on-requires Inv-loop μ-loop
 level-on-requires c κs =
-    let s = c .before .before .before .before .before in
+    let s = c .before .before .before .before .before .before in
     (s .pre .1 .0 .sound, (s .pre .1 .0 .held, in-reach s))
 
 -- the start, seen from the level
 abbrev start : tie.After-level-on Inv-loop μ-loop → tie.Start Inv-loop μ-loop
-start c = c .before .before .before .before .before .before
+start c = c .before .before .before .before .before .before .before
 
 has-plan-requires : tie.Need-has-plan-requires Inv-loop μ-loop
 has-plan-requires c κs =
     let s = start c in
-    (s .pre .1 .0 .sound, (s .pre .1 .0 .held, in-reach s))
+    (s .pre .1 .0 .sound, (s .pre .1 .0 .held, (c .before .both-sides .ensures, in-reach s)))
 
 returns : tie.Need-returns Inv-loop μ-loop
 unfolding turnOf
@@ -128,15 +132,18 @@ module _ (c : tie.After-clamp Inv-loop μ-loop) where
   abbrev share : ℕ
   share = c .clamp .result + more
 
+  summed : BothSides lows highs (from .args .question .total) (turn .before .before .before .before .both-sides .result)
+  summed = turn .before .before .before .before .both-sides .ensures
+
   -- the share is the one at the level, which some plan gives the member
   is-share : share ≡ getD (topped lows highs v left) i 0
-  is-share = sym (ahead-share lows highs i (omega arith) (omega arith) v left (turn .loop .left) (c .clamp .result) more (c .clamp .ensures) (c .before .extra .ensures) (turn .loop .inv .3))
+  is-share = sym (ahead-share lows highs i (omega arith) (omega (arith, from .pre .0 .sound .paired)) v left (turn .loop .left) (c .clamp .result) more (c .clamp .ensures) (c .before .extra .ensures) (turn .loop .inv .3))
 
   planned : Planned lows highs (from .args .question .total) (from .args .question .limits) i share
   planned = rw is-share (levelled-planned (has-one (turn .before)) (turn .before .before .before .level-on .ensures .reached) i (omega arith))
 
   next : Ahead lows highs v left (turn .loop .left - more) (i + 1)
-  next = ahead-step lows highs i (omega arith) (omega arith) v left (turn .loop .left) (c .clamp .result) more (c .clamp .ensures) (c .before .extra .ensures) (turn .loop .inv .3)
+  next = ahead-step lows highs i (omega arith) (omega (arith, from .pre .0 .sound .paired)) v left (turn .loop .left) (c .clamp .result) more (c .clamp .ensures) (c .before .extra .ensures) (turn .loop .inv .3)
 
 add-share : tie.Need-add-share Inv-loop μ-loop
 add-share c = omega (arith, share-at-small (from c .pre .0 .sound) (i c) (v c) (turn c .loop .left) (c .clamp .result) (more c) (omega arith) (c .clamp .ensures) (c .before .extra .ensures))
@@ -145,16 +152,16 @@ sub-left : tie.Need-sub-left Inv-loop μ-loop
 sub-left c = search needs
 
 farthest-taken-requires : tie.Need-farthest-taken-requires Inv-loop μ-loop
-farthest-taken-requires c κs = to-low (planned c) (from c .pre .1 .0)
+farthest-taken-requires c κs = (to-low (planned c) (from c .pre .1 .0), summed c)
 
 mul-starts : tie.Need-mul-starts Inv-loop μ-loop
-mul-starts c = search needs
+mul-starts c = omega (arith, from (c .before) .pre .0 .sound .few)
 
 slice-write-starts : tie.Need-slice-write-starts Inv-loop μ-loop
 slice-write-starts c = omega (arith, turn (c .before) .loop .inv .1 .size, from (c .before) .pre .1 .1 .0)
 
 farthest-taken-requires-2 : tie.Need-farthest-taken-requires-2 Inv-loop μ-loop
-farthest-taken-requires-2 c κs = to-high (planned (c .before)) (from (c .before) .pre .1 .0)
+farthest-taken-requires-2 c κs = (to-high (planned (c .before)) (from (c .before) .pre .1 .0), summed (c .before))
 
 mul-stops : tie.Need-mul-stops Inv-loop μ-loop
 mul-stops c = omega (arith, from (c .before .before) .pre .0 .sound .few)
@@ -203,6 +210,7 @@ narrow-on-spec =
     (tie.spec
     Inv-loop
     μ-loop
+    both-sides-requires
     level-on-requires
     has-plan-requires
     returns

@@ -43,7 +43,7 @@ build-requires : tie.Need-build-requires
 build-requires c κs =
     let e = c .before .before .before .before .before in
     let room = start e .pre .1 in
-    (probe-sound (shared e), (room .sizeStarts, (room .sizeStops ∙ sym (start e .pre .0 .paired), room .sizeTable)))
+    (start e .pre .0, (room .sizeStarts, (room .sizeStops ∙ sym (start e .pre .0 .paired), room .sizeTable)))
 
 narrow-on-requires : tie.Need-narrow-on-requires
 narrow-on-requires c κs =

@@ -10,10 +10,10 @@ use Rattle.probe.proofs.build.fill.Statement.{statement}
 use Rattle.probe.proofs.build.fill.Tie as tie
 
 abbrev Inv-loop : tie.InvT-loop
-Inv-loop lows highs starts stops total table₀ last k₀ table k = RowsTo lows highs starts stops total k table × (length table ≡ length table₀)
+Inv-loop lows highs starts stops table₀ last k₀ table k = RowsTo lows highs starts stops k table × (length table ≡ length table₀)
 
 abbrev μ-loop : tie.MeasureT-loop
-μ-loop lows highs starts stops total table₀ last k₀ table k = 2 * length lows - k
+μ-loop lows highs starts stops table₀ last k₀ table k = 2 * length lows - k
 
 -- the function's start, seen from the loop
 abbrev start : tie.At-loop Inv-loop μ-loop → tie.Start Inv-loop μ-loop

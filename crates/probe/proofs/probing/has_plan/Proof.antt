@@ -1,5 +1,4 @@
 -- A member with range 0 to 0, pinned to 0, changes no sum: the group itself. Assumes nothing.
-use borrow.Author.Needs.{needs}
 use Rattle.probe.specs.Laws.Pinned.{unpinned}
 use Rattle.probe.proofs.probing.has_plan.Statement.{statement}
 use Rattle.probe.proofs.probing.has_plan.Tie as tie
@@ -10,8 +9,9 @@ try-value-requires c κs =
     record {
       sound = s .pre .0;
       held = s .pre .1 .0;
+      summed = s .pre .1 .1 .0;
       asked = record { pinnedLows = s .args .lows .now; pinnedHighs = s .args .highs .now; pin = unpinned (s .pre .0 .ranges) };
-      reach = s .pre .1 .1;
+      reach = s .pre .1 .1 .1;
     }
 
 returns : tie.Need-returns

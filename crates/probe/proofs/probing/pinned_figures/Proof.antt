@@ -6,17 +6,19 @@ use mathlib.Core.Path.{_≡_}
 use Prim.Native.Nat.{ℕ, _-_, _*_, _≤_}
 use lib.ListN.{length}
 use Rattle.model.specs.Shares.{sumOf}
+use Rattle.model.specs.Figures.{deviation}
 use Rattle.model.specs.Levels.{clamp, clamped, topped}
 use Rattle.probe.specs.declared.rows.Row.{Row}
 use Rattle.probe.specs.declared.pinned.Reach.{Reach}
 use Rattle.probe.specs.Inner.Rows.{rowAt}
-use Rattle.probe.specs.Inner.Tables.{SoundWithTotal, Sums, Breakpoints, fromMean, square}
-use Rattle.probe.specs.Laws.Tables.{Small, small-mean, small-square}
+use Rattle.probe.specs.Inner.Tables.{SoundWithTotal, Sums, Breakpoints, square}
+use Rattle.probe.specs.Laws.Tables.{Small, small-square}
 use Rattle.probe.specs.Inner.Pinned.{Pin, Reached}
 use Rattle.probe.specs.Inner.Probes.{pinnedTotal, LastWithin, Divided}
 use Rattle.probe.specs.Laws.Probes.{pinnable, growing, reached, divided-few}
 use Rattle.probe.specs.Inner.Figures.{Summable}
 use Rattle.probe.specs.Laws.Figures.{summable, moves-sum}
+use Rattle.probe.specs.Laws.Sides.{doubling, doubled}
 use Rattle.probe.specs.Inner.Verdicts.{Asked}
 use Rattle.probe.specs.Laws.Verdicts.{pinned-figures, squares-enough, squares-small}
 use Rattle.probe.proofs.probing.pinned_figures.Statement.{statement}
@@ -39,7 +41,7 @@ module _ (s : tie.Start) where
   sound : SoundWithTotal lows highs (s .args .total)
   sound = s .pre .0 .sound
 
-  held : Breakpoints lows highs (s .args .total) (s .args .table .now)
+  held : Breakpoints lows highs (s .args .table .now)
   held = s .pre .0 .held
 
   asked : Asked lows highs (s .args .trial .low) (s .args .trial .high) (s .args .trial .value)
@@ -48,7 +50,7 @@ module _ (s : tie.Start) where
   found : LastWithin (s .args .table .now) (2 * length lows) (s .args .trial .low) (s .args .trial .high) (s .args .trial .value) (s .args .total) (s .args .trial .row)
   found = s .pre .1
 
-  sums : Sums lows highs (s .args .total) row
+  sums : Sums lows highs row
   sums = held .sums (s .args .trial .row) (found .upTo)
 
 -- the start, seen from the row and from what follows it
@@ -99,14 +101,8 @@ clamp-requires c κs = asked (from-reach c) .pin .ordered
 
 pinned-deviation-requires : tie.Need-pinned-deviation-requires
 pinned-deviation-requires c κs =
-    let s = from-reach (c .before) in (
-      sound s .few,
-      (
-        sound s .small,
-        rw (c .clamp .ensures, c .before .before .before .read-row .ensures)
-            (can (c .before) (asked s .pin) _ (sums s .deviations) (small-mean (sound s .few) (sound s .small))),
-      ),
-    )
+    let s = from-reach (c .before) in
+    (sound s .few, (sound s .small, doubling (sound s) (s .pre .0 .summed) (s .args .trial) (asked s .pin) (reach (c .before)) (there (c .before) (asked s .pin)) (few (c .before) .1)))
 
 pinned-squares-requires : tie.Need-pinned-squares-requires
 pinned-squares-requires c κs =
@@ -124,9 +120,8 @@ module _ (c : tie.After-pinned-squares) where
 
   module _ {lows′ highs′ : List ℕ} (pin : Pin (lows begun) (highs begun) (begun .args .trial .low) (begun .args .trial .high) (begun .args .trial .value) lows′ highs′) where
     is-deviation : c .before .pinned-deviation .result .0
-        ≡ sumOf (fromMean (length (lows begun)) (begun .args .total)) (topped lows′ highs′ (reach at .level) (reach at .over))
-    is-deviation = moves-sum pin (there at pin) _ (sums begun .deviations)
-        (rw (c .before .before .clamp .ensures, c .before .before .before .before .before .read-row .ensures) at (c .before .pinned-deviation .ensures))
+        ≡ deviation (length (lows begun)) (begun .args .total) (topped lows′ highs′ (reach at .level) (reach at .over))
+    is-deviation = doubled (sound begun) (begun .pre .0 .summed) (begun .args .trial) pin (reach at) (there at pin) (c .before .pinned-deviation .ensures)
 
     is-squares : c .pinned-squares .result ≡ sumOf square (topped lows′ highs′ (reach at .level) (reach at .over))
     is-squares = moves-sum pin (there at pin) square (sums begun .squares)

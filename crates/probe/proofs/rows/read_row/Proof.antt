@@ -1,4 +1,4 @@
--- The six numbers from the row's place on are the row. Assumes nothing.
+-- The five numbers from the row's place on are the row. Assumes nothing.
 use borrow.Author.Needs.{needs}
 use Rattle.probe.specs.Inner.Rows.{rowAt}
 use Rattle.probe.proofs.rows.read_row.Statement.{statement}
@@ -49,15 +49,6 @@ mul-t20 c = search needs
 shared-slice-read-t22 : tie.Need-shared-slice-read-t22
 shared-slice-read-t22 c = search needs
 
-add-t23 : tie.Need-add-t23
-add-t23 c = search needs
-
-mul-t24 : tie.Need-mul-t24
-mul-t24 c = search needs
-
-shared-slice-read-t26 : tie.Need-shared-slice-read-t26
-shared-slice-read-t26 c = search needs
-
 returns : tie.Need-returns
 unfolding rowAt
 returns c = search needs
@@ -81,7 +72,4 @@ read-row-spec =
     add-t19
     mul-t20
     shared-slice-read-t22
-    add-t23
-    mul-t24
-    shared-slice-read-t26
     returns)

@@ -1,4 +1,4 @@
--- The six numbers are written one after another from the row's place on. Assumes nothing.
+-- The five numbers are written one after another from the row's place on. Assumes nothing.
 use borrow.Author.Needs.{needs}
 use native.Mathlib.Omega.{arith}
 use Prim.Native.Nat.{ℕ, suc, _+_, _*_}
@@ -53,27 +53,17 @@ mul-table-5 c = search needs
 slice-write-table-5 : tie.Need-slice-write-table-5
 slice-write-table-5 c = simp length-set (omega arith)
 
-add-table-5 : tie.Need-add-table-5
-add-table-5 c = search needs
-
-mul-table-6 : tie.Need-mul-table-6
-mul-table-6 c = search needs
-
-slice-write-table-6 : tie.Need-slice-write-table-6
-slice-write-table-6 c = simp length-set (omega arith)
-
 same-length : tie.Need-same-length
 same-length c = search needs
 
 returns : tie.Need-returns
 returns c =
-    let at : ℕ = 6 * c .args .k in
+    let at : ℕ = 5 * c .args .k in
     let one : at + 1 ≡ suc at = omega arith in
     let two : at + 2 ≡ suc (suc at) = omega arith in
     let three : at + 3 ≡ suc (suc (suc at)) = omega arith in
     let four : at + 4 ≡ suc (suc (suc (suc at))) = omega arith in
-    let five : at + 5 ≡ suc (suc (suc (suc (suc at)))) = omega arith in
-    rw (one, two, three, four, five) (row-written (c .args .k) (c .args .row) (c .args .table .now) (c .pre))
+    rw (one, two, three, four) (row-written (c .args .k) (c .args .row) (c .args .table .now) (c .pre))
 
 pub write-row-spec : {M : Type 1} → statement M
 write-row-spec =
@@ -94,8 +84,5 @@ write-row-spec =
     add-table-4
     mul-table-5
     slice-write-table-5
-    add-table-5
-    mul-table-6
-    slice-write-table-6
     same-length
     returns)

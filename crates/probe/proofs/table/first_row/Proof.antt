@@ -8,20 +8,20 @@ use lib.ListN.{length, getD}
 use Rattle.model.specs.Shares.{greatestShare, sumOf}
 use Rattle.model.specs.Laws.Lists.{ranges-at}
 use Rattle.probe.specs.Laws.Sums.{Added, added-none, added-one, added-all, clamped-least}
-use Rattle.probe.specs.Laws.Tables.{Small, small-itself, small-mean, small-square, clamped-small}
-use Rattle.probe.specs.Inner.Tables.{greatestPart, itself, fromMean, square}
+use Rattle.probe.specs.Laws.Tables.{Small, small-itself, small-square, clamped-small}
+use Rattle.probe.specs.Inner.Tables.{greatestPart, itself, square}
 use Rattle.probe.proofs.table.first_row.Statement.{statement}
 use Rattle.probe.proofs.table.first_row.Tie as tie
 
 abbrev Inv-loop : tie.InvT-loop
-Inv-loop lows highs total count copies₀ deviation₀ squares₀ i₀ copies deviation squares i =
-    (i ≤ length lows) × Added itself lows i copies × Added (fromMean (length lows) total) lows i deviation × Added square lows i squares
+Inv-loop lows highs copies₀ squares₀ i₀ copies squares i =
+    (i ≤ length lows) × Added itself lows i copies × Added square lows i squares
 
 abbrev μ-loop : tie.MeasureT-loop
-μ-loop lows highs total count copies₀ deviation₀ squares₀ i₀ copies deviation squares i = length lows - i
+μ-loop lows highs copies₀ squares₀ i₀ copies squares i = length lows - i
 
 loop-holds : tie.Need-loop-holds Inv-loop μ-loop
-loop-holds c = (search needs, added-none _ _, added-none _ _, added-none _ _)
+loop-holds c = (search needs, added-none _ _, added-none _ _)
 
 -- one turn: the low is a share, and no sum grows past what all lows add up to
 module _ (t : tie.In-loop Inv-loop μ-loop) where
@@ -52,20 +52,6 @@ shared-slice-read-copies c = search needs
 add-copies : tie.Need-add-copies Inv-loop μ-loop
 add-copies c = omega (arith, fits (c .before) itself small-itself (c .before .before .loop .inv .1))
 
-mul-from-mean : tie.Need-mul-from-mean Inv-loop μ-loop
-mul-from-mean c = search needs
-
-shared-slice-read-from-mean : tie.Need-shared-slice-read-from-mean Inv-loop μ-loop
-shared-slice-read-from-mean c = search needs
-
-from-mean-requires : tie.Need-from-mean-requires Inv-loop μ-loop
-from-mean-requires c κs = (omega arith, omega (arith, share (c .before .before)))
-
-add-deviation : tie.Need-add-deviation Inv-loop μ-loop
-add-deviation c =
-    let t = c .before .before .before in
-    rw (c .from-mean .ensures) (omega (arith, fits t (fromMean (length (lows t)) (start t .args .total)) (small-mean (start t .pre .few) (start t .pre .small)) (t .before .loop .inv .2)))
-
 mul-square : tie.Need-mul-square Inv-loop μ-loop
 mul-square c = search needs
 
@@ -73,12 +59,12 @@ shared-slice-read-square : tie.Need-shared-slice-read-square Inv-loop μ-loop
 shared-slice-read-square c = search needs
 
 square-requires : tie.Need-square-requires Inv-loop μ-loop
-square-requires c κs = omega (arith, share (c .before .before .before .before))
+square-requires c κs = omega (arith, share (c .before .before))
 
 add-squares : tie.Need-add-squares Inv-loop μ-loop
 add-squares c =
-    let t = c .before .before .before .before .before in
-    omega (arith, c .square .ensures, fits t square small-square (t .before .loop .inv .3))
+    let t = c .before .before .before in
+    omega (arith, c .square .ensures, fits t square small-square (t .before .loop .inv .2))
 
 add-i : tie.Need-add-i Inv-loop μ-loop
 add-i c = search needs
@@ -88,12 +74,11 @@ loop-less c = search needs
 
 loop-again : tie.Need-loop-again Inv-loop μ-loop
 loop-again c =
-    let t = c .before .before .before .before .before in
+    let t = c .before .before .before in
     let inv = t .before .loop .inv in (
       search needs,
       added-one _ _ (omega arith) (inv .1),
-      rw (c .before .before .from-mean .ensures) (added-one _ _ (omega arith) (inv .2)),
-      rw (c .square .ensures) (added-one _ _ (omega arith) (inv .3)),
+      rw (c .square .ensures) (added-one _ _ (omega arith) (inv .2)),
     )
 
 returns : tie.Need-returns Inv-loop μ-loop
@@ -104,8 +89,7 @@ returns c =
       sums = record {
         share = omega arith;
         totals = rw (clamped-least (s .pre .ranges)) (added-all _ _ (c .loop-test .left) (inv .1));
-        deviations = rw (clamped-least (s .pre .ranges)) (added-all _ _ (c .loop-test .left) (inv .2));
-        squares = rw (clamped-least (s .pre .ranges)) (added-all _ _ (c .loop-test .left) (inv .3));
+        squares = rw (clamped-least (s .pre .ranges)) (added-all _ _ (c .loop-test .left) (inv .2));
         fewLows = omega arith;
         fewHighs = omega arith;
       };
@@ -124,10 +108,6 @@ first-row-spec =
     mul-copies
     shared-slice-read-copies
     add-copies
-    mul-from-mean
-    shared-slice-read-from-mean
-    from-mean-requires
-    add-deviation
     mul-square
     shared-slice-read-square
     square-requires

@@ -5,7 +5,7 @@ use Prim.Native.Nat.{ℕ, _+_, _*_}
 use Rattle.model.specs.Shares.{sumOf}
 use Rattle.model.specs.Levels.{clamped}
 use Rattle.probe.specs.Inner.Tables.{Movable, itself, square}
-use Rattle.probe.specs.Laws.Tables.{Small, movable, moved-sum, small-itself, small-mean, small-square}
+use Rattle.probe.specs.Laws.Tables.{Small, movable, moved-sum, small-itself, small-square}
 use Rattle.probe.proofs.table.row_at.Statement.{statement}
 use Rattle.probe.proofs.table.row_at.Tie as tie
 
@@ -22,39 +22,26 @@ module _ (s : tie.Start) (f : ℕ → ℕ) {stored : ℕ} (held : stored ≡ sum
 moved-requires : tie.Need-moved-requires
 moved-requires c κs = may (c .before .before) itself (c .before .before .pre .1 .0 .totals) small-itself
 
-from-mean-requires : tie.Need-from-mean-requires
-from-mean-requires c κs = search needs
-
-from-mean-requires-2 : tie.Need-from-mean-requires-2
-from-mean-requires-2 c κs = search needs
-
-moved-requires-2 : tie.Need-moved-requires-2
-moved-requires-2 c κs =
-    let s = c .before .before .before .before .before in
-    rw (c .from-mean2 .ensures, c .before .from-mean .ensures) (may s _ (s .pre .1 .0 .deviations) (small-mean (s .pre .0 .few) (s .pre .0 .small)))
-
 square-requires : tie.Need-square-requires
 square-requires c κs = search needs
 
 square-requires-2 : tie.Need-square-requires-2
 square-requires-2 c κs = search needs
 
-moved-requires-3 : tie.Need-moved-requires-3
-moved-requires-3 c κs =
-    let s = c .before .before .before .before .before .before .before .before in
+moved-requires-2 : tie.Need-moved-requires-2
+moved-requires-2 c κs =
+    let s = c .before .before .before .before .before in
     rw (c .square2 .ensures, c .before .square .ensures) (may s square (s .pre .1 .0 .squares) small-square)
 
 returns : tie.Need-returns
 returns c =
-    let s = c .before .before .before .before .before .before .before .before .before in
+    let s = c .before .before .before .before .before .before in
     record {
       sums = record {
         share = s .pre .1 .1 .1;
-        totals = is s itself (s .pre .1 .0 .totals) _ (c .before .before .before .before .before .before .moved .ensures);
-        deviations = is s _ (s .pre .1 .0 .deviations) _
-            (rw (c .before .before .before .before .from-mean2 .ensures, c .before .before .before .before .before .from-mean .ensures) at (c .before .before .before .moved2 .ensures));
+        totals = is s itself (s .pre .1 .0 .totals) _ (c .before .before .before .moved .ensures);
         squares = is s square (s .pre .1 .0 .squares) _
-            (rw (c .before .square2 .ensures, c .before .before .square .ensures) at (c .moved3 .ensures));
+            (rw (c .before .square2 .ensures, c .before .before .square .ensures) at (c .moved2 .ensures));
         fewLows = s .pre .1 .0 .fewLows;
         fewHighs = s .pre .1 .0 .fewHighs;
       };
@@ -68,10 +55,7 @@ row-at-spec =
     tie.close
     (tie.spec
     moved-requires
-    from-mean-requires
-    from-mean-requires-2
-    moved-requires-2
     square-requires
     square-requires-2
-    moved-requires-3
+    moved-requires-2
     returns)
