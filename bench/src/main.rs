@@ -13,6 +13,7 @@ mod planners;
 mod rational;
 mod table;
 mod timing;
+mod unkind;
 mod work;
 
 use goals::Results;
@@ -68,6 +69,8 @@ fn measured(start: Instant) -> (Vec<Table>, Results, Vec<Row>) {
     let growth = charts::growth(&narrow);
     step("narrowing one group of shares to 1,000,000");
     let wide = work::narrow::run_wide();
+    step("narrowing one unkind group");
+    let unkind = work::unkind::run();
     step("reading");
     let (reads, read) = work::read::run();
     step("settling");
@@ -85,7 +88,8 @@ fn measured(start: Instant) -> (Vec<Table>, Results, Vec<Row>) {
     step("the experiment of 001");
     let (paper, rows) = work::paper::run();
     step("the goals");
-    let mut tables = vec![levels, narrows, growth, wide, reads, settles, reports, writes, shut, filtering, refusals];
+    let mut tables =
+        vec![levels, narrows, growth, wide, unkind, reads, settles, reports, writes, shut, filtering, refusals];
     tables.extend(paper);
     (tables, Results { level, narrow, read, settle, write }, rows)
 }

@@ -8,6 +8,7 @@ pub mod read;
 pub mod report;
 pub mod settle;
 pub mod shut;
+pub mod unkind;
 pub mod write;
 
 use crate::jobs::job;

@@ -38,7 +38,7 @@ pub fn run() -> (Table, Vec<Timed>) {
     let mut all = vec![];
     for n in SIZES {
         for (tightness, first) in kinds() {
-            let times = measure(n, COMMON, tightness, first, true);
+            let times = measure(groups_of(n, COMMON, tightness), first, true);
             let mut row = row(n, tightness, first, &times);
             row.push(digits(times.of(GECODE)));
             row.push(digits(times.of(GECODE_ALONE)));
@@ -65,7 +65,7 @@ pub fn run_wide() -> Table {
     let mut table = Table::new("narrow_wide", &head);
     for n in [8, 64, 256] {
         for (tightness, first) in kinds() {
-            let times = measure(n, GREATEST_SHARE, tightness, first, false);
+            let times = measure(groups_of(n, GREATEST_SHARE, tightness), first, false);
             let mut row = row(n, tightness, first, &times);
             row.push(digits(times.ratio(PLANNER, ROWS)));
             table.add(row);
@@ -93,8 +93,7 @@ fn row(n: usize, tightness: Tightness, first: bool, times: &Times) -> Vec<String
 }
 
 /// Times all contenders on groups of one size.
-fn measure(n: usize, greatest: u64, tightness: Tightness, first: bool, gecode: bool) -> Times {
-    let mut groups = groups_of(n, greatest, tightness);
+pub fn measure(mut groups: Vec<GroupCase>, first: bool, gecode: bool) -> Times {
     let narrowed = narrowed_by_plain(&groups);
     if !first {
         groups = narrowed.clone();
