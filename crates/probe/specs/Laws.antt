@@ -6,6 +6,7 @@ pub mod Pinned
 pub mod Probes
 pub mod Reaching
 pub mod Rows
+pub mod Shuffles
 pub mod Sides
 pub mod Spans
 pub mod Steps
