@@ -37,6 +37,16 @@ restored-length (m ∷ ms) (y ∷ ys) = by (runs m) (restored-length ms ys) (res
     by true p q = ap suc p
     by false p q = ap suc q
 
+-- where nobody is shut, every number is at its place
+pub restored-all : (ms ys : List ℕ) → length ys ≡ length ms → ((i : ℕ) → getD ms i 0 ≡ 0) → restored ms ys ≡ ys
+unfolding restored
+restored-all [] [] count all = refl
+restored-all [] (y ∷ ys) count all = absurd (omega arith)
+restored-all (m ∷ ms) [] count all = absurd (omega arith)
+restored-all (m ∷ ms) (y ∷ ys) count all =
+    restored-run m (ap runs (all 0)) ms y ys
+    ∙ ap (λ (l : List ℕ). y ∷ l) (restored-all ms ys (suc-inj count) (λ i. all (suc i)))
+
 -- where the running members have numbers in their ranges, all have
 pub restored-within : {ms ls hs : List ℕ} → Marked ms ls hs → (ys : List ℕ) → Within (running ms ls) (running ms hs) ys → Within ls hs (restored ms ys)
 unfolding running restored

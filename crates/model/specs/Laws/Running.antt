@@ -2,11 +2,11 @@
 use Prim.Native.Nat.{ℕ, zero, suc, _+_, _-_, _/_, _≤_, min}
 use mathlib.Core.Bool.{Bool, true, false}
 use mathlib.Core.List.{List, [], _∷_}
-use mathlib.Core.Path.{_≡_, refl, ap, _∙_}
+use mathlib.Core.Path.{_≡_, refl, sym, ap, _∙_}
 use native.Mathlib.Nat.{suc-inj}
 use native.Mathlib.Omega.{arith}
 use lib.Dec.{leb}
-use borrow.Author.Tests.{le-ltb}
+use borrow.Author.Tests.{le-ltb, eqb-true}
 use lib.ListN.{length, getD}
 use Rattle.model.specs.Shares.{greatestShare, Ranges, Within, sum, sumOf}
 use Rattle.model.specs.Levels.{clamp, clamped, totalAt, levelBelow, level, growth, topped, remainder, levelled}
@@ -75,6 +75,16 @@ running-few (m ∷ ms) (x ∷ xs) = by (runs m) (running-few ms xs)
     by : (b : Bool) → length (running ms xs) ≤ length xs → length {A = ℕ} (elim b [ true ↦ x ∷ running ms xs | false ↦ running ms xs ]) ≤ suc (length xs)
     by true rest = omega arith
     by false rest = omega arith
+
+-- where as many run as there are members, nobody is shut
+pub nobody-shut : (ms : List ℕ) → length (running ms ms) ≡ length ms → (i : ℕ) → getD ms i 0 ≡ 0
+nobody-shut [] all i = refl
+nobody-shut (m ∷ ms) all i = by (runs m) refl (nobody-shut ms) i
+  where
+    by : (b : Bool) → runs m ≡ b → (length (running ms ms) ≡ length ms → (i : ℕ) → getD ms i 0 ≡ 0) → (i : ℕ) → getD (m ∷ ms) i 0 ≡ 0
+    by true run rest zero = eqb-true m 0 run
+    by true run rest (suc i) = rest (suc-inj (ap length (sym (running-run m run ms m ms)) ∙ all)) i
+    by false shut rest i = absurd (omega (arith, all, ap length (running-skip m shut ms m ms), running-few ms ms))
 
 -- the ranges of running members are ranges
 pub running-ranges : (ms : List ℕ) {ls hs : List ℕ} → Ranges ls hs → Ranges (running ms ls) (running ms hs)
