@@ -8,6 +8,7 @@ use model::levels::clamp;
 use model::levels::extra;
 use model::lists::copy;
 use model::running::pack;
+use model::running::running_count;
 use model::running::unpack;
 use model::shares::has_shares;
 use probe::build::build;
@@ -126,7 +127,19 @@ fn narrow_within(
     )
 }
 
-// The same for a group of at most 16 members, with small arrays: clearing large ones would be much of its time.
+// The same for a group of at most 4 members, with small arrays: clearing large ones would be much of its time.
+fn narrow_handful(lows: &mut [u64], highs: &mut [u64], question: Question) -> Turn
+    requires { ⌜ SoundRanges (now lows) (now highs) ⌝ }
+    requires { ⌜ length (now lows) ≤ 4 ⌝ }
+    ensures { λ r. ⌜ Turned (now (lows .entry)) (now (highs .entry)) (question .total) (question .limits) r (now (lows .exit)) (now (highs .exit)) ⌝ }
+{
+    let mut starts = [0u64; 4];
+    let mut stops = [0u64; 4];
+    let mut table = [0u64; 45];
+    narrow_within(lows, highs, question, &mut starts, &mut stops, &mut table)
+}
+
+// The same for a group of at most 16 members.
 fn narrow_few(lows: &mut [u64], highs: &mut [u64], question: Question) -> Turn
     requires { ⌜ SoundRanges (now lows) (now highs) ⌝ }
     requires { ⌜ length (now lows) ≤ 16 ⌝ }
@@ -138,18 +151,46 @@ fn narrow_few(lows: &mut [u64], highs: &mut [u64], question: Question) -> Turn
     narrow_within(lows, highs, question, &mut starts, &mut stops, &mut table)
 }
 
-// Narrows sound lists in place, or says that there is no plan and leaves them as they were.
-pub fn narrow_core(lows: &mut [u64], highs: &mut [u64], question: Question) -> Turn
+// The same for a group of at most 64 members.
+fn narrow_many(lows: &mut [u64], highs: &mut [u64], question: Question) -> Turn
+    requires { ⌜ SoundRanges (now lows) (now highs) ⌝ }
+    requires { ⌜ length (now lows) ≤ 64 ⌝ }
+    ensures { λ r. ⌜ Turned (now (lows .entry)) (now (highs .entry)) (question .total) (question .limits) r (now (lows .exit)) (now (highs .exit)) ⌝ }
+{
+    let mut starts = [0u64; 64];
+    let mut stops = [0u64; 64];
+    let mut table = [0u64; 645];
+    narrow_within(lows, highs, question, &mut starts, &mut stops, &mut table)
+}
+
+// The same for the largest groups.
+fn narrow_most(lows: &mut [u64], highs: &mut [u64], question: Question) -> Turn
     requires { ⌜ SoundRanges (now lows) (now highs) ⌝ }
     ensures { λ r. ⌜ Turned (now (lows .entry)) (now (highs .entry)) (question .total) (question .limits) r (now (lows .exit)) (now (highs .exit)) ⌝ }
 {
-    if lows.len() <= 16 {
-        return narrow_few(lows, highs, question);
-    }
     let mut starts = [0u64; MOST_UNITS];
     let mut stops = [0u64; MOST_UNITS];
     let mut table = [0u64; 2565];
     narrow_within(lows, highs, question, &mut starts, &mut stops, &mut table)
+}
+
+// Narrows sound lists in place, or says that there is no plan and leaves them as they were. The room goes by the
+// group's size, and each size of it stands in a function of its own.
+pub fn narrow_core(lows: &mut [u64], highs: &mut [u64], question: Question) -> Turn
+    requires { ⌜ SoundRanges (now lows) (now highs) ⌝ }
+    ensures { λ r. ⌜ Turned (now (lows .entry)) (now (highs .entry)) (question .total) (question .limits) r (now (lows .exit)) (now (highs .exit)) ⌝ }
+{
+    let count = lows.len();
+    if count <= 4 {
+        return narrow_handful(lows, highs, question);
+    }
+    if count <= 16 {
+        return narrow_few(lows, highs, question);
+    }
+    if count <= 64 {
+        return narrow_many(lows, highs, question);
+    }
+    narrow_most(lows, highs, question)
 }
 
 // The same for the first members of lists.
@@ -161,8 +202,8 @@ fn narrow_front(lows: &mut [u64], highs: &mut [u64], count: usize, question: Que
     narrow_core(&mut lows[..count], &mut highs[..count], question)
 }
 
-// Narrows the running members of sound lists in place, or says that there is no plan and leaves them as they were.
-pub fn narrow_running(
+// The same for the running members of lists: their numbers go to the front, and back to their places.
+fn narrow_packed(
     lows: &mut [u64],
     highs: &mut [u64],
     marks: &[u64],
@@ -178,4 +219,21 @@ pub fn narrow_running(
     unpack(marks, lows, count);
     unpack(marks, highs, count);
     turn
+}
+
+// Narrows the running members of sound lists in place, or says that there is no plan and leaves them as they were.
+pub fn narrow_running(
+    lows: &mut [u64],
+    highs: &mut [u64],
+    marks: &[u64],
+    question: Question,
+) -> Turn
+    requires { ⌜ SoundRanges (now lows) (now highs) ⌝ }
+    requires { ⌜ Marked (now marks) (now lows) (now highs) ⌝ }
+    ensures { λ r. ⌜ MarkedTurned (now (marks .entry)) (now (lows .entry)) (now (highs .entry)) (question .total) (question .limits) r (now (lows .exit)) (now (highs .exit)) ⌝ }
+{
+    if running_count(marks) == marks.len() {
+        return narrow_core(lows, highs, question);
+    }
+    narrow_packed(lows, highs, marks, question)
 }

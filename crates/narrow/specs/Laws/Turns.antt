@@ -1,11 +1,13 @@
 -- Laws of what a turn of narrowing leaves in the lists. Assumes nothing.
 use Prim.Native.Nat.{ℕ}
 use mathlib.Core.List.{List}
-use mathlib.Core.Path.{_≡_}
+use mathlib.Core.Path.{_≡_, sym, _∙_}
+use lib.ListN.{length}
 use Rattle.model.specs.Running.{running, restored, Marked}
 use Rattle.model.specs.Shares.{Ranges}
 use Rattle.model.specs.Laws.Lists.{lows-within, highs-within}
-use Rattle.model.specs.Laws.Marked.{restored-running}
+use Rattle.model.specs.Laws.Running.{marked-length, nobody-shut, running-all}
+use Rattle.model.specs.Laws.Marked.{restored-running, restored-all}
 use Rattle.model.specs.declared.Limits.{Limits}
 use Rattle.model.specs.declared.Turn.{Turn}
 use Rattle.model.specs.declared.Turn.the-variants.{NoPlan}
@@ -37,3 +39,15 @@ turn-restored (NoPlan number) marked ranges lows-front highs-front turned lows-b
       lowsAre = rw (lows-back, turned .lowsAre, lows-front) (restored-running marked (lows-within ranges));
       highsAre = rw (highs-back, turned .highsAre, highs-front) (restored-running marked (highs-within ranges));
     }
+
+-- where nobody is shut, a turn of the lists as they are is one of the running members
+pub turn-of-all : (turn : Turn) {marks lows highs leftLows leftHighs : List ℕ} {total : ℕ} {limits : Limits}
+    → Marked marks lows highs → Ranges lows highs → length (running marks marks) ≡ length marks
+    → Turned lows highs total limits turn leftLows leftHighs → length leftLows ≡ length lows → length leftHighs ≡ length highs
+    → MarkedTurned marks lows highs total limits turn leftLows leftHighs
+turn-of-all turn {marks} {lows} {highs} {leftLows} {leftHighs} marked ranges all turned low-count high-count =
+    let none-shut = nobody-shut marks all in
+    let (lows-many, highs-many) = marked-length marked in
+    turn-restored turn marked ranges
+    (sym (running-all marks lows lows-many none-shut)) (sym (running-all marks highs highs-many none-shut)) turned
+    (sym (restored-all marks leftLows (low-count ∙ lows-many) none-shut)) (sym (restored-all marks leftHighs (high-count ∙ highs-many) none-shut))

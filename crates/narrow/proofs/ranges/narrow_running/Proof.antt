@@ -1,77 +1,15 @@
--- The running members' ranges are narrowed at the front of the lists, and go back to their places. Assumes nothing.
+-- Where nobody is shut, the lists are narrowed as they are. Assumes nothing.
 use borrow.Author.Needs.{needs}
-use native.Mathlib.Omega.{arith}
-use Prim.Native.Nat.{ℕ, _≤_}
-use mathlib.Core.List.{List}
-use mathlib.Core.Path.{_≡_, sym, ap, _∙_}
-use lib.ListN.{length, take}
-use Rattle.model.specs.Running.{running}
-use Rattle.model.specs.Laws.Running.{marked-length, running-length, running-few}
-use Rattle.model.specs.Laws.Sound.{running-sound}
-use Rattle.narrow.specs.Laws.Turns.{turn-restored}
+use mathlib.Core.Path.{sym, _∙_}
+use Rattle.narrow.specs.Laws.Turns.{turn-of-all}
 use Rattle.narrow.proofs.ranges.narrow_running.Statement.{statement}
 use Rattle.narrow.proofs.ranges.narrow_running.Tie as tie
 
-pack-requires : tie.Need-pack-requires
-pack-requires c κs = marked-length (c .before .before .before .before .pre .1) .0
+running-count-requires : tie.Need-running-count-requires
+running-count-requires c κs = search needs
 
-pack-requires-2 : tie.Need-pack-requires-2
-pack-requires-2 c κs = marked-length (c .before .before .before .before .before .before .before .before .pre .1) .1
-
--- both lists begin with the running members' numbers
-module _ (c : tie.After-pack2) where
-  abbrev start : tie.Start
-  start = c .before .before .before .before .before .before .before .before .before
-
-  abbrev first : tie.After-pack
-  first = c .before .before .before .before
-
-  abbrev marks : List ℕ
-  marks = start .args .marks .now
-
-  abbrev lows : List ℕ
-  lows = start .args .lows .now
-
-  abbrev highs : List ℕ
-  highs = start .args .highs .now
-
-  abbrev count : ℕ
-  count = first .pack .result
-
-  front-lows : take count (first .pack .last .1 .0) ≡ running marks lows
-  front-lows = first .pack .ensures .1
-
-  same-count : c .pack2 .result ≡ count
-  same-count =
-      c .pack2 .ensures .0 ∙ running-length marks highs lows (start .pre .0 .paired) ∙ sym (first .pack .ensures .0)
-
-  front-highs : take count (c .pack2 .last .1 .0) ≡ running marks highs
-  front-highs = ap (λ (n : ℕ). take n (c .pack2 .last .1 .0)) (sym same-count) ∙ c .pack2 .ensures .1
-
-  few : count ≤ length lows
-  few = omega (arith, first .pack .ensures .0, running-few marks lows)
-
-  counts : count ≡ length (running marks marks)
-  counts = first .pack .ensures .0 ∙ running-length marks lows marks (marked-length (start .pre .1) .0)
-
-narrow-front-requires : tie.Need-narrow-front-requires
-narrow-front-requires c κs =
-    let p = c .before .before .before .before in (
-      rw (front-lows p, front-highs p) (running-sound (marks p) (start p .pre .0)),
-      (omega (arith, few p, first p .pack .kept .1 .0), omega (arith, few p, p .pack2 .kept .1 .0, start p .pre .0 .paired)),
-    )
-
-unpack-requires : tie.Need-unpack-requires
-unpack-requires c κs =
-    let narrows = c .before .before .before .before .before in
-    let p = narrows .before .before .before .before .before in
-    (narrows .narrow-front .kept .0 ∙ first p .pack .kept .1 .0 ∙ marked-length (start p .pre .1) .0, counts p)
-
-unpack-requires-2 : tie.Need-unpack-requires-2
-unpack-requires-2 c κs =
-    let narrows = c .before .before .before .before .before .before .before .before .before in
-    let p = narrows .before .before .before .before .before in
-    (narrows .narrow-front .kept .1 .0 ∙ p .pack2 .kept .1 .0 ∙ marked-length (start p .pre .1) .1, counts p)
+narrow-core-requires : tie.Need-narrow-core-requires
+narrow-core-requires c κs = search needs
 
 same-length : tie.Need-same-length
 same-length c = search needs
@@ -81,20 +19,35 @@ same-length-2 c = search needs
 
 returns : tie.Need-returns
 returns c =
-    let narrows = c .before .before .before .before .before .before .before .before .before .before .before .before in
-    let p = narrows .before .before .before .before .before in
-    turn-restored (narrows .narrow-front .result) (start p .pre .1) (start p .pre .0 .ranges) (front-lows p) (front-highs p)
-    (narrows .narrow-front .ensures) (c .before .before .before .before .before .before .unpack .ensures) (c .before .before .unpack2 .ensures)
+    let call = c .before .before .before .before in
+    let whole = call .before .before .before in
+    let counted = whole .before in
+    let start = counted .before .before .before .before in
+    turn-of-all (call .narrow-core .result) (start .pre .1) (start .pre .0 .ranges) (sym (counted .running-count .ensures) ∙ whole .if1 .taken)
+    (call .narrow-core .ensures) (call .narrow-core .kept .0) (call .narrow-core .kept .1 .0)
+
+narrow-packed-requires : tie.Need-narrow-packed-requires
+narrow-packed-requires c κs = search needs
+
+same-length-3 : tie.Need-same-length-3
+same-length-3 c = search needs
+
+same-length-4 : tie.Need-same-length-4
+same-length-4 c = search needs
+
+returns-2 : tie.Need-returns-2
+returns-2 c = search needs
 
 pub narrow-running-spec : {M : Type 1} → statement M
 narrow-running-spec =
     tie.close
     (tie.spec
-    pack-requires
-    pack-requires-2
-    narrow-front-requires
-    unpack-requires
-    unpack-requires-2
+    running-count-requires
+    narrow-core-requires
     same-length
     same-length-2
-    returns)
+    returns
+    narrow-packed-requires
+    same-length-3
+    same-length-4
+    returns-2)
