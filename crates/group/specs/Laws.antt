@@ -8,3 +8,4 @@ pub mod Narrowing
 pub mod Promises
 pub mod Shared
 pub mod Summing
+pub mod Units

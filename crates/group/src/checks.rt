@@ -13,6 +13,7 @@ use model::Share;
 ghost use mathlib.Core.Path.{_≡_};
 ghost use lib.ListN.{length};
 ghost use Rattle.group.specs.Checks.{areShares, unitWithin, unitOrdered, firstBeyond, firstCrossed, sized, amountsWithin, refuseIf, checkLists};
+ghost use Rattle.group.specs.Inner.Units.{unitSound, allSound};
 ghost use Rattle.group.specs.declared.Check.the-variants.{Passed};
 ghost use mathlib.Core.Bool.{true};
 
@@ -82,6 +83,40 @@ fn first_crossed(lows: &[u64], highs: &[u64], marks: &[u64]) -> u64
     0
 }
 
+// Whether a unit's numbers are in their ranges and in order. A high at most 1,000,000 holds its low there too.
+fn is_sound(low: u64, high: u64, mark: u64) -> bool
+    ensures { λ r. ⌜ r ≡ unitSound low high mark ⌝ }
+{
+    if mark == RUNNING {
+        let Checked::Valid(_) = Share::new(high) else {
+            return false;
+        };
+        return low <= high;
+    }
+    if mark != SHUT {
+        return false;
+    }
+    if low != 0 {
+        return false;
+    }
+    high == 0
+}
+
+// Whether every unit is sound: one walk, after which units that are need no other.
+fn are_sound(lows: &[u64], highs: &[u64], marks: &[u64]) -> bool
+    requires { ⌜ (length (now highs) ≡ length (now lows)) × (length (now marks) ≡ length (now lows)) ⌝ }
+    ensures { λ r. ⌜ r ≡ allSound (now (lows .entry)) (now (highs .entry)) (now (marks .entry)) ⌝ }
+{
+    let mut i: usize = 0;
+    while i < lows.len() {
+        if !is_sound(lows[i], highs[i], marks[i]) {
+            return false;
+        }
+        i += 1;
+    }
+    true
+}
+
 // Whether lists of these lengths are those of a group, with room for its shares.
 fn is_sized(count: usize, other: usize, marked: usize, room: usize) -> bool
     ensures { λ r. ⌜ r ≡ sized count other marked room ⌝ }
@@ -129,6 +164,12 @@ pub fn check_lists(lows: &[u64], highs: &[u64], marks: &[u64], room: usize, amou
 {
     if !is_sized(lows.len(), highs.len(), marks.len(), room) {
         return refused(1, 0);
+    }
+    if are_sound(lows, highs, marks) {
+        if amounts {
+            return Check::Passed;
+        }
+        return refused(4, 0);
     }
     let beyond = first_beyond(lows, highs, marks);
     if 0 < beyond {

@@ -2,11 +2,12 @@
 use borrow.Author.Needs.{needs}
 use borrow.Author.Tests.{lt-ltb, le-ltb, not-true, not-false}
 use mathlib.Core.Bool.{true, false}
-use mathlib.Core.Path.{_≡_, sym}
+use mathlib.Core.Path.{_≡_, sym, _∙_}
 use lib.Dec.{ltb}
 use lib.ListN.{length}
-use Rattle.group.specs.Checks.{firstBeyond, sized, checkLists}
+use Rattle.group.specs.Checks.{firstBeyond, firstCrossed, sized, checkLists}
 use Rattle.group.specs.Laws.Findings.{sized-of}
+use Rattle.group.specs.Laws.Units.{sound-units}
 use Rattle.group.proofs.checks.check_lists.Statement.{statement}
 use Rattle.group.proofs.checks.check_lists.Tie as tie
 
@@ -32,65 +33,102 @@ module _ (c : tie.Else1) where
   paired : (length (start .args .highs .now) ≡ length (start .args .lows .now)) × (length (start .args .marks .now) ≡ length (start .args .lows .now))
   paired = (sym (sized-of _ _ _ _ passed-1 .paired), sym (sized-of _ _ _ _ passed-1 .each-marked))
 
-first-beyond-requires : tie.Need-first-beyond-requires
-first-beyond-requires c κs = paired c
+are-sound-requires : tie.Need-are-sound-requires
+are-sound-requires c κs = paired c
 
-refused-requires-2 : tie.Need-refused-requires-2
-refused-requires-2 c κs = search needs
+-- nothing is wrong with the units
+module _ (c : tie.Then2) where
+  abbrev begun : tie.Start
+  begun = start (c .before .before)
+
+  none-wrong : (firstBeyond (begun .args .lows .now) (begun .args .highs .now) (begun .args .marks .now) ≡ 0)
+      × (firstCrossed (begun .args .lows .now) (begun .args .highs .now) (begun .args .marks .now) ≡ 0)
+  none-wrong =
+      let sizes = paired (c .before .before) in
+      sound-units _ _ _ (sym (sizes .0)) (sym (sizes .1)) (sym (c .before .are-sound .ensures) ∙ c .if2 .taken)
 
 returns-2 : tie.Need-returns-2
 unfolding checkLists
 returns-2 c =
-    rw (passed-1 (c .before .before .before), ← c .before .before .first-beyond .ensures, lt-ltb 0 _ (c .before .if2 .taken))
-    (c .refused2 .ensures)
+    let e = c .before in
+    rw (passed-1 (e .before .before), none-wrong e .0, none-wrong e .1, c .if3 .taken)
 
--- no unit's number is beyond its range
-passed-2 : (c : tie.Else2)
-    → ltb 0 (firstBeyond (start (c .before .before) .args .lows .now) (start (c .before .before) .args .highs .now) (start (c .before .before) .args .marks .now)) ≡ false
-passed-2 c = rw (← c .before .first-beyond .ensures) (le-ltb 0 _ (c .if2 .left))
-
-refused-requires-3 : tie.Need-refused-requires-3
-refused-requires-3 c κs = search needs
+refused-requires-2 : tie.Need-refused-requires-2
+refused-requires-2 c κs = search needs
 
 returns-3 : tie.Need-returns-3
 unfolding checkLists
 returns-3 c =
-    let e = c .before .before .before .before in
-    rw (passed-1 e, passed-2 (c .before .before), not-true (start e .args .amounts) (c .before .if3 .taken)) (c .refused3 .ensures)
+    let e = c .before .before in
+    rw (passed-1 (e .before .before), none-wrong e .0, c .before .if3 .left) (c .refused2 .ensures)
 
-first-crossed-requires : tie.Need-first-crossed-requires
-first-crossed-requires c κs = paired (c .before .before .before)
+first-beyond-requires : tie.Need-first-beyond-requires
+first-beyond-requires c κs = paired (c .before .before)
 
-refused-requires-4 : tie.Need-refused-requires-4
-refused-requires-4 c κs = search needs
-
--- total and limits are in their ranges
-passed-3 : (c : tie.Else3) → start (c .before .before .before) .args .amounts ≡ true
-passed-3 c = not-false (start (c .before .before .before) .args .amounts) (c .if3 .left)
+refused-requires-3 : tie.Need-refused-requires-3
+refused-requires-3 c κs = search needs
 
 returns-4 : tie.Need-returns-4
 unfolding checkLists
 returns-4 c =
-    let e = c .before .before .before in
     rw (
-      passed-1 (e .before .before .before),
-      passed-2 (e .before),
-      passed-3 e,
-      ← c .before .before .first-crossed .ensures,
+      passed-1 (c .before .before .before .before .before),
+      ← c .before .before .first-beyond .ensures,
       lt-ltb 0 _ (c .before .if4 .taken),
     )
-    (c .refused4 .ensures)
+    (c .refused3 .ensures)
+
+-- no unit's number is beyond its range
+module _ (c : tie.Else4) where
+  abbrev sizes-held : tie.Else1
+  sizes-held = c .before .before .before .before
+
+  passed-2 : ltb 0 (firstBeyond (start sizes-held .args .lows .now) (start sizes-held .args .highs .now) (start sizes-held .args .marks .now)) ≡ false
+  passed-2 = rw (← c .before .first-beyond .ensures) (le-ltb 0 _ (c .if4 .left))
+
+refused-requires-4 : tie.Need-refused-requires-4
+refused-requires-4 c κs = search needs
 
 returns-5 : tie.Need-returns-5
 unfolding checkLists
 returns-5 c =
+    let within = c .before .before in
+    let e = sizes-held within in
+    rw (passed-1 e, passed-2 within, not-true (start e .args .amounts) (c .before .if5 .taken)) (c .refused4 .ensures)
+
+first-crossed-requires : tie.Need-first-crossed-requires
+first-crossed-requires c κs = paired (sizes-held (c .before))
+
+refused-requires-5 : tie.Need-refused-requires-5
+refused-requires-5 c κs = search needs
+
+-- total and limits are in their ranges
+passed-3 : (c : tie.Else5) → start (sizes-held (c .before)) .args .amounts ≡ true
+passed-3 c = not-false (start (sizes-held (c .before)) .args .amounts) (c .if5 .left)
+
+returns-6 : tie.Need-returns-6
+unfolding checkLists
+returns-6 c =
+    let e = c .before .before .before in
+    rw (
+      passed-1 (sizes-held (e .before)),
+      passed-2 (e .before),
+      passed-3 e,
+      ← c .before .before .first-crossed .ensures,
+      lt-ltb 0 _ (c .before .if6 .taken),
+    )
+    (c .refused5 .ensures)
+
+returns-7 : tie.Need-returns-7
+unfolding checkLists
+returns-7 c =
     let e = c .before .before in
     rw (
-      passed-1 (e .before .before .before),
+      passed-1 (sizes-held (e .before)),
       passed-2 (e .before),
       passed-3 e,
       ← c .before .first-crossed .ensures,
-      le-ltb 0 _ (c .if4 .left),
+      le-ltb 0 _ (c .if6 .left),
     )
 
 pub check-lists-spec : {M : Type 1} → statement M
@@ -100,12 +138,16 @@ check-lists-spec =
     is-sized-requires
     refused-requires
     returns
-    first-beyond-requires
-    refused-requires-2
+    are-sound-requires
     returns-2
-    refused-requires-3
+    refused-requires-2
     returns-3
-    first-crossed-requires
-    refused-requires-4
+    first-beyond-requires
+    refused-requires-3
     returns-4
-    returns-5)
+    refused-requires-4
+    returns-5
+    first-crossed-requires
+    refused-requires-5
+    returns-6
+    returns-7)
