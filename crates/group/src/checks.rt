@@ -83,7 +83,7 @@ fn first_crossed(lows: &[u64], highs: &[u64], marks: &[u64]) -> u64
     0
 }
 
-// Whether a unit's numbers are in their ranges and in order. A high at most 1,000,000 holds its low there too.
+// Whether a unit's numbers are in their ranges and in order. A low that is at most a share is a share too.
 fn is_sound(low: u64, high: u64, mark: u64) -> bool
     ensures { λ r. ⌜ r ≡ unitSound low high mark ⌝ }
 {
@@ -96,10 +96,7 @@ fn is_sound(low: u64, high: u64, mark: u64) -> bool
     if mark != SHUT {
         return false;
     }
-    if low != 0 {
-        return false;
-    }
-    high == 0
+    is_ordered(low, high, mark)
 }
 
 // Whether every unit is sound: one walk, after which units that are need no other.

@@ -203,12 +203,7 @@ fn narrow_front(lows: &mut [u64], highs: &mut [u64], count: usize, question: Que
 }
 
 // The same for the running members of lists: their numbers go to the front, and back to their places.
-fn narrow_packed(
-    lows: &mut [u64],
-    highs: &mut [u64],
-    marks: &[u64],
-    question: Question,
-) -> Turn
+fn narrow_packed(lows: &mut [u64], highs: &mut [u64], marks: &[u64], question: Question) -> Turn
     requires { ⌜ SoundRanges (now lows) (now highs) ⌝ }
     requires { ⌜ Marked (now marks) (now lows) (now highs) ⌝ }
     ensures { λ r. ⌜ MarkedTurned (now (marks .entry)) (now (lows .entry)) (now (highs .entry)) (question .total) (question .limits) r (now (lows .exit)) (now (highs .exit)) ⌝ }

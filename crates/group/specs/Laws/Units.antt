@@ -27,12 +27,10 @@ pub run-unsound : (low high : ℕ) → leb high greatestShare ≡ false → fals
 run-unsound low high beyond = rw (beyond, right-fails (leb low greatestShare) refl)
 
 -- a shut unit is sound where its range is 0 to 0
-pub shut-sound : (high : ℕ) → eqb high 0 ≡ unitSound 0 high 1
-shut-sound zero = refl
-shut-sound (suc high) = rw (ne-eqb (suc high) 0 (omega arith)) (sym (right-fails (unitWithin 0 (suc high) 1) refl))
-
-pub shut-unsound : (low high : ℕ) → eqb low 0 ≡ false → false ≡ unitSound low high 1
-shut-unsound low high more = rw more (sym (right-fails (unitWithin low high 1) refl))
+pub shut-sound : (low high : ℕ) → unitOrdered low high 1 ≡ unitSound low high 1
+shut-sound zero zero = refl
+shut-sound zero (suc high) = rw (ne-eqb (suc high) 0 (omega arith)) (sym (right-fails (unitWithin 0 (suc high) 1) refl))
+shut-sound (suc low) high = rw (ne-eqb (suc low) 0 (omega arith)) (sym (right-fails (unitWithin (suc low) high 1) refl))
 
 -- a unit with another mark is not
 pub mark-unsound : (low high mark : ℕ) → leb mark 1 ≡ false → false ≡ unitSound low high mark

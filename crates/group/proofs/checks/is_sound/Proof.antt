@@ -1,9 +1,9 @@
 -- The tests, in turn. Assumes nothing.
 use borrow.Author.Needs.{needs}
-use borrow.Author.Tests.{lt-leb, ne-eqb}
+use borrow.Author.Tests.{lt-leb}
 use native.Mathlib.Omega.{arith}
 use Rattle.model.specs.Laws.Shares.{valid-is-share, beyond-no-share}
-use Rattle.group.specs.Laws.Units.{run-sound, run-unsound, shut-sound, shut-unsound, mark-unsound}
+use Rattle.group.specs.Laws.Units.{run-sound, run-unsound, shut-sound, mark-unsound}
 use Rattle.group.proofs.checks.is_sound.Statement.{statement}
 use Rattle.group.proofs.checks.is_sound.Tie as tie
 
@@ -33,15 +33,23 @@ returns-3 c =
     let s = c .before .before in
     mark-unsound (s .args .low) (s .args .high) (s .args .mark) (lt-leb (s .args .mark) 1 (omega (arith, c .before .if1 .left, c .if2 .taken)))
 
+is-ordered-requires : tie.Need-is-ordered-requires
+is-ordered-requires c κs = search needs
+
 returns-4 : tie.Need-returns-4
 returns-4 c =
     let s = c .before .before .before in
-    rw (c .before .if2 .left) (shut-unsound (s .args .low) (s .args .high) (ne-eqb _ 0 (c .if3 .taken)))
-
-returns-5 : tie.Need-returns-5
-returns-5 c = rw (c .before .if2 .left, c .if3 .left) (shut-sound (c .before .before .before .args .high))
+    rw (c .is-ordered .ensures, c .before .if2 .left) (shut-sound (s .args .low) (s .args .high))
 
 pub is-sound-spec : {M : Type 1} → statement M
 is-sound-spec =
     tie.close
-    (tie.spec new-requires enum-told enum-told-2 returns returns-2 returns-3 returns-4 returns-5)
+    (tie.spec
+    new-requires
+    enum-told
+    enum-told-2
+    returns
+    returns-2
+    returns-3
+    is-ordered-requires
+    returns-4)
