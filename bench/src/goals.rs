@@ -1,7 +1,7 @@
 //! The goals of the planner's speed, each with its figure in this run.
 
 use crate::jobs::Tightness;
-use crate::planners::{BISECTION, GECODE, PLANNER, ROWS};
+use crate::planners::{BISECTION, GECODE, GECODE_ALONE, PLANNER, ROWS};
 use crate::table::{digits, Table};
 use crate::timing::Times;
 use crate::work::narrow::Timed;
@@ -10,6 +10,7 @@ use crate::work::narrow::Timed;
 pub struct Results {
     pub level: Vec<Times>,
     pub narrow: Vec<Timed>,
+    pub unkind: Vec<(usize, Times)>,
     pub read: Vec<Times>,
     pub settle: Vec<(String, Times)>,
     pub write: Vec<Times>,
@@ -41,8 +42,10 @@ pub fn run(results: &Results) -> Table {
 
 /// All goals.
 fn goals(results: &Results) -> Vec<Goal> {
-    let Results { level, narrow, read, settle, write } = results;
-    let narrowing = || narrow.iter().map(|timed| &timed.times);
+    let Results { level, narrow, unkind, read, settle, write } = results;
+    let sized = || narrow.iter().map(|timed| (timed.n, &timed.times)).chain(unkind.iter().map(|(n, times)| (*n, times)));
+    let narrowing = || sized().map(|(_, times)| times);
+    let of_size = |many: bool| sized().filter(move |(n, _)| (*n >= 8) == many).map(|(_, times)| times);
     let settling = || settle.iter().map(|(_, times)| times);
     let tight = |n: usize| narrow.iter().filter(move |timed| timed.n == n && timed.tightness == Tightness::Tight);
     let faster = |n: usize| least(tight(n).map(|timed| timed.times.ratio(BISECTION, PLANNER)));
@@ -56,10 +59,16 @@ fn goals(results: &Results) -> Vec<Goal> {
     vec![
         goal("levelling, planner / plain Rust, greatest of all sizes", worst(level.iter(), BISECTION), true, 1.2),
         goal(
-            "narrowing, planner / plain Rust of the same way, greatest of all rows",
-            worst(narrowing(), ROWS),
+            "narrowing 8 members and more, planner / plain Rust of the same way, greatest of all rows",
+            worst(of_size(true), ROWS),
             true,
             1.2,
+        ),
+        goal(
+            "narrowing fewer members, planner / plain Rust of the same way, greatest of all rows",
+            worst(of_size(false), ROWS),
+            true,
+            1.35,
         ),
         goal("reading, planner / plain Rust, greatest of all texts", worst(read.iter(), BISECTION), true, 1.2),
         goal(
@@ -71,9 +80,15 @@ fn goals(results: &Results) -> Vec<Goal> {
         goal("writing, planner / plain Rust, greatest of all jobs", worst(write.iter(), BISECTION), true, 1.2),
         goal("narrowing 64 members, times as fast as by bisection", faster(64), false, 5.0),
         goal("narrowing 256 members, times as fast as by bisection", faster(256), false, 20.0),
-        goal("narrowing, planner / Gecode, greatest of all rows", worst(narrowing(), GECODE), true, 1.0),
-        goal("narrowing, first call, 256 members to 64", grows(true), true, 8.0),
-        goal("narrowing, quiet call, 256 members to 64", grows(false), true, 8.0),
+        goal("narrowing, planner / Gecode, greatest of all rows", worst(narrowing(), GECODE), true, 0.25),
+        goal(
+            "narrowing, planner / Gecode's propagation alone, greatest of all rows",
+            worst(narrowing(), GECODE_ALONE),
+            true,
+            0.5,
+        ),
+        goal("narrowing, first call, 256 members to 64", grows(true), true, 4.5),
+        goal("narrowing, quiet call, 256 members to 64", grows(false), true, 4.5),
         goal("settling 16 × 256, milliseconds", milliseconds("16 × 256"), true, 20.0),
         goal("settling 64 × 8, milliseconds", milliseconds("64 × 8"), true, 2.0),
     ]

@@ -70,7 +70,7 @@ fn measured(start: Instant) -> (Vec<Table>, Results, Vec<Row>) {
     step("narrowing one group of shares to 1,000,000");
     let wide = work::narrow::run_wide();
     step("narrowing one unkind group");
-    let unkind = work::unkind::run();
+    let (unkinds, unkind) = work::unkind::run();
     step("reading");
     let (reads, read) = work::read::run();
     step("settling");
@@ -89,9 +89,9 @@ fn measured(start: Instant) -> (Vec<Table>, Results, Vec<Row>) {
     let (paper, rows) = work::paper::run();
     step("the goals");
     let mut tables =
-        vec![levels, narrows, growth, wide, unkind, reads, settles, reports, writes, shut, filtering, refusals];
+        vec![levels, narrows, growth, wide, unkinds, reads, settles, reports, writes, shut, filtering, refusals];
     tables.extend(paper);
-    (tables, Results { level, narrow, read, settle, write }, rows)
+    (tables, Results { level, narrow, unkind, read, settle, write }, rows)
 }
 
 /// What there is to know about a run.

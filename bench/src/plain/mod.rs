@@ -1,15 +1,18 @@
 //! Narrowing in plain Rust the way that the proved planner goes, by rows; same answers as the independent planner, which
 //! walks the group at each step. And settling with it.
 
-mod breakpoints;
+mod ends;
+mod probe;
 mod rows;
 
-use breakpoints::{Member, Room, Table};
 use danivomel::{Limits, Range, Refusal, Unsettled};
 use danivomel_tests::independent::level::{clamp, has_shares};
 use danivomel_tests::independent::narrow::{check_lists, Terms};
 use danivomel_tests::independent::settle::settle_job;
 use danivomel_tests::independent::{MOST_UNITS, RUNNING};
+use ends::{Member, Shared};
+use probe::{Table, Terms as Compared, Trial};
+use rows::Room;
 
 /// Narrows by rows.
 pub fn narrow(lows: &mut [u64], highs: &mut [u64], marks: &[u64], total: u64, limits: Limits) -> Result<(), Refusal> {
@@ -50,10 +53,11 @@ fn narrow_running(lows: &mut [u64], highs: &mut [u64], total: u64, limits: Limit
     if lows.is_empty() {
         return Ok(());
     }
-    if lows.len() <= 16 {
-        narrow_within(lows, highs, total, limits, &mut Room::<16, 32>::new())
-    } else {
-        narrow_within(lows, highs, total, limits, &mut Room::<256, 512>::new())
+    match lows.len() {
+        0..=4 => narrow_within(lows, highs, total, limits, &mut Room::<4, 9>::new()),
+        5..=16 => narrow_within(lows, highs, total, limits, &mut Room::<16, 33>::new()),
+        17..=64 => narrow_within(lows, highs, total, limits, &mut Room::<64, 129>::new()),
+        _ => narrow_within(lows, highs, total, limits, &mut Room::<256, 513>::new()),
     }
 }
 
@@ -65,13 +69,20 @@ fn narrow_within<const N: usize, const R: usize>(
     limits: Limits,
     room: &mut Room<N, R>,
 ) -> Result<(), u64> {
-    let table = Table::of(lows, highs, total, limits, room);
-    let (level, mut left) = table.levelled().ok_or(12u64)?;
+    let table = Table { rows: room.rows(lows, highs), terms: Compared::of(lows, highs, total, limits) };
+    let near = table.row_of(Trial::default(), table.rows.len() / 2);
+    let levelled = table.look(Trial::default(), near);
+    if !table.allows(levelled) {
+        return Err(12);
+    }
+    let (level, mut left) = (levelled.level, levelled.left);
+    let (mut down, mut up) = (Shared::NOTHING, Shared::NOTHING);
     for (low, high) in lows.iter_mut().zip(highs.iter_mut()) {
         let more = u64::from(left > 0 && *low <= level && level < *high);
-        let share = clamp(*low, *high, level) + more;
         left -= more;
-        (*low, *high) = rows::ends(&table, Member { low: *low, high: *high, share });
+        let member = Member { low: *low, high: *high, share: clamp(*low, *high, level) + more };
+        *low = ends::end(&table, member, member.low, near, &mut down);
+        *high = ends::end(&table, member, member.high, near, &mut up);
     }
     Ok(())
 }

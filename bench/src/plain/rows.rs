@@ -1,64 +1,64 @@
-//! The ends of a member's range, as the proved planner finds them: an end out of reach is moved to the nearest value that the
-//! others can make up for; then Newton's steps over the values, and bisection after a fixed number of them.
+//! A group's breakpoint table: the bounds of the members with several values in order, each with the sums of the shares levelled
+//! there. Between two of them every member either keeps its share or moves with the level. Rows do not depend on the total.
 
-use super::breakpoints::{Member, Table};
-
-/// How many of Newton's steps an end gets before bisection takes over, which bounds the search.
-const NEWTON_STEPS: u32 = 8;
-
-/// The least and the greatest value of the member that some plan takes.
-pub fn ends(table: &Table, member: Member) -> (u64, u64) {
-    (end(table, member, member.low), end(table, member, member.high))
+/// A bound, T and the sum of squares of the shares where every member takes it moved into its range, and how many members
+/// grow from there on.
+#[derive(Clone, Copy, Default)]
+pub struct Row {
+    pub level: u64,
+    pub total: u64,
+    pub squares: u64,
+    pub growing: u64,
 }
 
-/// The last row at which the others have no more than the member's value leaves them, searched from near on.
-fn row_of(table: &Table, member: Member, value: u64, near: usize) -> usize {
-    let (mut row, mut top, mut step) = (0, table.rows.len(), 1);
-    while top - row > 1 {
-        let middle = match top - row {
-            gap if gap <= step => row + gap / 2,
-            _ if near <= row => row + step,
-            _ if top <= near => top - step,
-            _ => near,
-        };
-        step *= 2;
-        if table.rest(&table.rows[middle], member) + value <= table.total {
-            row = middle;
-        } else {
-            top = middle;
-        }
-    }
-    row
+/// Room for the sorted bounds of N members and their R rows, which are at most 2 N + 1.
+pub struct Room<const N: usize, const R: usize> {
+    starts: [u64; N],
+    stops: [u64; N],
+    rows: [Row; R],
 }
 
-/// The value nearest to one end of the member's range that some plan takes. The levelled share is one.
-fn end(table: &Table, member: Member, end: u64) -> u64 {
-    if end == member.share {
-        return end;
+impl<const N: usize, const R: usize> Room<N, R> {
+    pub fn new() -> Room<N, R> {
+        Room { starts: [0; N], stops: [0; N], rows: [Row::default(); R] }
     }
-    let (mut outer, mut inner) = (table.into_reach(member, end), member.share);
-    let mut row = row_of(table, member, outer, table.near);
-    let (mut taken, mut step) = table.tried(member, row, outer);
-    if taken {
-        return outer;
-    }
-    let mut tries = 0;
-    while outer.abs_diff(inner) > 1 {
-        let far = outer.abs_diff(inner);
-        let inward = match taken {
-            _ if tries == NEWTON_STEPS => far / 2,
-            true => far - 1,
-            false => step.clamp(1, far - 1),
-        };
-        tries = (tries + 1).min(NEWTON_STEPS);
-        let value = if outer < inner { outer + inward } else { outer - inward };
-        row = row_of(table, member, value, row);
-        (taken, step) = table.tried(member, row, value);
-        if taken {
-            inner = value;
-        } else {
-            outer = value;
+
+    /// The rows of a group, rising: one for level 0 and one for each bound.
+    pub fn rows(&mut self, lows: &[u64], highs: &[u64]) -> &[Row] {
+        let mut row = Row { level: 0, total: lows.iter().sum(), squares: lows.iter().map(|low| low * low).sum(), growing: 0 };
+        let count = self.gather(lows, highs);
+        let (starts, stops) = (&mut self.starts[..count], &mut self.stops[..count]);
+        starts.sort_unstable();
+        stops.sort_unstable();
+        let rows = &mut self.rows[..2 * count + 1];
+        rows[0] = row;
+        let (mut started, mut stopped) = (0, 0);
+        for next in &mut rows[1..] {
+            let low_first = started < count && starts[started] <= stops[stopped];
+            let level = if low_first { starts[started] } else { stops[stopped] };
+            let more = row.growing * (level - row.level);
+            row.total += more;
+            row.squares += more * (row.level + level);
+            row.level = level;
+            if low_first {
+                row.growing += 1;
+                started += 1;
+            } else {
+                row.growing -= 1;
+                stopped += 1;
+            }
+            *next = row;
         }
+        rows
     }
-    inner
+
+    /// Writes down the bounds of the members with several values, and answers how many these are.
+    fn gather(&mut self, lows: &[u64], highs: &[u64]) -> usize {
+        let mut count = 0;
+        for (&low, &high) in lows.iter().zip(highs) {
+            (self.starts[count], self.stops[count]) = (low, high);
+            count += usize::from(low < high);
+        }
+        count
+    }
 }

@@ -33,6 +33,7 @@ pub fn run() -> (Table, Vec<Timed>) {
         "Gecode, propagation alone, µs",
         "planner / plain Rust, same way",
         "planner / Gecode",
+        "planner / Gecode, propagation alone",
     ];
     let mut table = Table::new("narrow", &head);
     let mut all = vec![];
@@ -44,6 +45,7 @@ pub fn run() -> (Table, Vec<Timed>) {
             row.push(digits(times.of(GECODE_ALONE)));
             row.push(digits(times.ratio(PLANNER, ROWS)));
             row.push(digits(times.ratio(PLANNER, GECODE)));
+            row.push(digits(times.ratio(PLANNER, GECODE_ALONE)));
             table.add(row);
             all.push(Timed { n, tightness, first, times });
         }
