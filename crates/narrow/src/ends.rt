@@ -5,11 +5,11 @@ use model::numbers::apart;
 use probe::pinned::Trial;
 use probe::pinned::into_reach;
 use probe::probing::try_value;
-use probe::sides::Sides;
+use probe::terms::Terms;
 ghost use Prim.Native.Nat.{_<_};
 ghost use Rattle.model.specs.Figures.{apart};
 ghost use Rattle.model.specs.Plans.{taken};
-ghost use Rattle.probe.specs.Inner.Sides.{BothSides};
+ghost use Rattle.probe.specs.Inner.Terms.{Termed};
 ghost use Rattle.narrow.specs.Inner.Edges.{Amid, Edge, Reaches, Approach, Search};
 
 // How many of Newton's steps an end gets before bisection takes over, which bounds the search.
@@ -62,11 +62,11 @@ fn edge(
     highs: &[u64],
     table: &[u64],
     question: Question,
-    sides: Sides,
+    terms: Terms,
     gap: Gap,
 ) -> u64
     requires { ⌜ Search (now lows) (now highs) (now table) (question .total) (question .limits) (gap .member) (gap .outer) (gap .inner) ⌝ }
-    requires { ⌜ BothSides (now lows) (now highs) (question .total) sides ⌝ }
+    requires { ⌜ Termed (now lows) (now highs) (question .total) (question .limits) terms ⌝ }
     ensures { λ r. ⌜ Edge (taken (now (lows .entry)) (now (highs .entry)) (question .total) (question .limits) (gap .member)) (gap .outer) (gap .inner) r ⌝ }
 {
     let member = gap.member;
@@ -85,7 +85,7 @@ fn edge(
             value,
             row,
         };
-        let tried = try_value(lows, highs, table, question, sides, trial);
+        let tried = try_value(lows, highs, table, question, terms, trial);
         inward = tried.inward;
         row = tried.row;
         tries = fewer(tries);
@@ -112,11 +112,11 @@ pub(crate) fn farthest_taken(
     highs: &[u64],
     table: &[u64],
     question: Question,
-    sides: Sides,
+    terms: Terms,
     way: Way,
 ) -> u64
     requires { ⌜ Approach (now lows) (now highs) (now table) (question .total) (question .limits) (way .member) (way .end) (way .share) ⌝ }
-    requires { ⌜ BothSides (now lows) (now highs) (question .total) sides ⌝ }
+    requires { ⌜ Termed (now lows) (now highs) (question .total) (question .limits) terms ⌝ }
     ensures { λ r. ⌜ Reaches (taken (now (lows .entry)) (now (highs .entry)) (question .total) (question .limits) (way .member)) (way .end) (way .share) r ⌝ }
 {
     // Some plan gives the share.
@@ -126,8 +126,7 @@ pub(crate) fn farthest_taken(
     let member = way.member;
     let low = lows[member];
     let high = highs[member];
-    let last = 2 * lows.len();
-    let value = into_reach(table, last, low, high, way.end, question.total);
+    let value = into_reach(table, terms.last, low, high, way.end, question.total);
     let row = way.row;
     let trial = Trial {
         low,
@@ -135,7 +134,7 @@ pub(crate) fn farthest_taken(
         value,
         row,
     };
-    let tried = try_value(lows, highs, table, question, sides, trial);
+    let tried = try_value(lows, highs, table, question, terms, trial);
     if tried.taken {
         return value;
     }
@@ -146,5 +145,5 @@ pub(crate) fn farthest_taken(
         inward: tried.inward,
         row: tried.row,
     };
-    edge(lows, highs, table, question, sides, gap)
+    edge(lows, highs, table, question, terms, gap)
 }

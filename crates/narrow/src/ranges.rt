@@ -12,9 +12,8 @@ use model::running::running_count;
 use model::running::unpack;
 use model::shares::has_shares;
 use probe::build::build;
-use probe::probing::has_plan;
 use probe::probing::level_on;
-use probe::sides::both_sides;
+use probe::terms::terms_of;
 ghost use mathlib.Core.Path.{_≡_};
 ghost use Prim.Native.Nat.{_≤_};
 ghost use lib.ListN.{length, take};
@@ -41,12 +40,12 @@ fn narrow_on(
     ensures { λ r. ⌜ now (starts .exit) ≡ afterTurn r (narrowedLows (now (lows .entry)) (now (highs .entry)) (question .total) (question .limits)) (now (starts .entry)) ⌝ }
     ensures { λ r. ⌜ now (stops .exit) ≡ afterTurn r (narrowedHighs (now (lows .entry)) (now (highs .entry)) (question .total) (question .limits)) (now (stops .entry)) ⌝ }
 {
-    let sides = both_sides(lows, highs, question.total);
-    let levelled = level_on(lows, highs, table, question.total);
-    let row = levelled.row;
-    if !has_plan(lows, highs, table, question, sides, row) {
+    let terms = terms_of(lows, highs, question);
+    let levelled = level_on(lows, highs, table, terms);
+    if !levelled.planned {
         return Turn::NoPlan(12);
     }
+    let row = levelled.row;
     let v = levelled.level;
     let mut left = levelled.over;
     let mut member: usize = 0;
@@ -62,14 +61,14 @@ fn narrow_on(
             end: low,
             row,
         };
-        starts[member] = farthest_taken(lows, highs, table, question, sides, down);
+        starts[member] = farthest_taken(lows, highs, table, question, terms, down);
         let up = Way {
             member,
             share,
             end: high,
             row,
         };
-        stops[member] = farthest_taken(lows, highs, table, question, sides, up);
+        stops[member] = farthest_taken(lows, highs, table, question, terms, up);
         member += 1;
     }
     Turn::Narrowed

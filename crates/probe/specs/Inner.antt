@@ -8,5 +8,6 @@ pub mod Sides
 pub mod Spans
 pub mod Steps
 pub mod Tables
+pub mod Terms
 pub mod Verdicts
 pub mod Walks

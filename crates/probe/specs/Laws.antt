@@ -12,5 +12,6 @@ pub mod Spans
 pub mod Steps
 pub mod Sums
 pub mod Tables
+pub mod Terms
 pub mod Verdicts
 pub mod Walks

@@ -8,3 +8,4 @@ pub mod probing;
 pub mod rows;
 pub mod sides;
 pub mod table;
+pub mod terms;

@@ -19,9 +19,12 @@ pub struct Trial {
     pub row: usize,
 }
 
-// A level, how many members grew up to it from the row below, and the copies left over there.
+// A level that the copies left over at a row reach: how many members grow from there, the copies, how many each of them
+// gets, the level, and the copies left over there.
 pub struct Reach {
     pub growing: u64,
+    pub copies: u64,
+    pub each: u64,
     pub level: u64,
     pub over: u64,
 }
@@ -107,22 +110,27 @@ pub fn into_reach(table: &[u64], last: usize, low: u64, high: u64, v: u64, total
 }
 
 // The level that the copies left over at a row reach.
-pub fn reach_from(row: Row, low: u64, high: u64, left: u64) -> Reach
-    requires { ⌜ (0 < left → row .highs + growth low high (row .mark) < row .lows) ⌝ }
-    requires { ⌜ row .mark + left ≤ 1_000_000_000 ⌝ }
-    ensures { λ r. ⌜ Divided row low high left r ⌝ }
+pub fn reach_from(row: Row, low: u64, high: u64, copies: u64) -> Reach
+    requires { ⌜ (0 < copies → row .highs + growth low high (row .mark) < row .lows) ⌝ }
+    requires { ⌜ row .mark + copies ≤ 1_000_000_000 ⌝ }
+    ensures { λ r. ⌜ Divided row low high copies r ⌝ }
 {
-    if left == 0 {
+    if copies == 0 {
         return Reach {
             growing: 0,
+            copies,
+            each: 0,
             level: row.mark,
             over: 0,
         };
     }
     let growing = row.lows - (row.highs + growth(low, high, row.mark));
+    let each = copies / growing;
     Reach {
         growing,
-        level: row.mark + left / growing,
-        over: left % growing,
+        copies,
+        each,
+        level: row.mark + each,
+        over: copies % growing,
     }
 }

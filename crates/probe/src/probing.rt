@@ -6,56 +6,56 @@ use crate::pinned::last_within;
 use crate::pinned::pinned_total;
 use crate::pinned::reach_from;
 use crate::rows::read_row;
-use crate::sides::Sides;
-use crate::sides::pinned_deviation;
-use model::Figures;
+use crate::sides::past;
+use crate::sides::pinned_half;
+use crate::terms::Terms;
 use model::Question;
 use model::Share;
-use model::Spread;
 use model::levels::clamp;
 use model::numbers::apart;
 ghost use mathlib.Core.Path.{_≡_};
-ghost use Prim.Native.Nat.{_*_};
-ghost use lib.ListN.{length};
-ghost use Rattle.model.specs.Plans.{hasPlan};
-ghost use Rattle.probe.specs.Inner.Tables.{SoundWithTotal, Breakpoints};
-ghost use Rattle.probe.specs.Inner.Probes.{LastWithin, InReach, LevelledOn};
-ghost use Rattle.probe.specs.Inner.Sides.{BothSides};
-ghost use Rattle.probe.specs.Inner.Verdicts.{PinnedFigures, Triable, Decides};
+ghost use Rattle.probe.specs.Inner.Probes.{LastWithin};
+ghost use Rattle.probe.specs.Inner.Verdicts.{Lookable, Triable, PinnedFigures, withinTerms, Decides, LevelledOn};
 
-// The figures of a pinned group's levelled shares, and the level of the others there.
+// What a look at a pinned group finds: the row below its level, half of the deviation and the sum of squares of its levelled
+// shares, and the level of the others there with the copies left over.
 struct Pinned {
-    figures: Figures,
+    row: usize,
+    half: u64,
+    squares: u64,
     level: u64,
+    over: u64,
 }
 
-// The figures of the pinned group's levelled shares, from the row below its level.
-fn pinned_figures(
-    lows: &[u64],
-    highs: &[u64],
-    table: &[u64],
-    total: u64,
-    sides: Sides,
-    trial: Trial,
-) -> Pinned
-    requires { ⌜ Triable (now lows) (now highs) (now table) total sides (trial .low) (trial .high) (trial .value) ⌝ }
-    requires { ⌜ LastWithin (now table) (2 * length (now lows)) (trial .low) (trial .high) (trial .value) total (trial .row) ⌝ }
-    ensures { λ r. ⌜ PinnedFigures (now (lows .entry)) (now (highs .entry)) (trial .low) (trial .high) (trial .value) total (r .figures) ⌝ }
+// Looks a pinned group up in the table.
+fn look(lows: &[u64], highs: &[u64], table: &[u64], terms: Terms, trial: Trial) -> Pinned
+    requires { ⌜ Lookable (now lows) (now highs) (now table) terms (trial .low) (trial .high) (trial .value) ⌝ }
+    ensures { λ r. ⌜ PinnedFigures (now (lows .entry)) (now (highs .entry)) (now (table .entry)) terms (trial .low) (trial .high) (trial .value) r ⌝ }
 {
-    let count = lows.len() as u64;
-    let v = trial.value;
-    let row = read_row(table, trial.row);
-    let left = total - pinned_total(row, trial.low, trial.high, v);
-    let reach = reach_from(row, trial.low, trial.high, left);
+    let k = last_within(table, terms.last, trial, terms.total);
+    let row = read_row(table, k);
+    let copies = terms.total - pinned_total(row, trial.low, trial.high, trial.value);
+    let reach = reach_from(row, trial.low, trial.high, copies);
     let own = clamp(trial.low, trial.high, row.mark);
-    let deviation = pinned_deviation(count, total, sides, trial, reach);
-    let squares = pinned_squares(row, own, v, reach);
-    let figures = Figures {
-        deviation,
-        spread: Spread::from_squares(count, squares, total),
-    };
-    let level = reach.level;
-    Pinned { figures, level }
+    let squares = pinned_squares(row, own, trial.value, reach);
+    let half = pinned_half(terms, trial, reach);
+    Pinned {
+        row: k,
+        half,
+        squares,
+        level: reach.level,
+        over: reach.over,
+    }
+}
+
+// Whether the limits allow what was found.
+fn within(terms: Terms, pinned: Pinned) -> bool
+    ensures { λ r. ⌜ r ≡ withinTerms terms pinned ⌝ }
+{
+    if terms.squares < pinned.squares {
+        return false;
+    }
+    pinned.half <= terms.half
 }
 
 // What a trial tells: whether the group with the member pinned to the value has a plan, how far inward of the last value
@@ -67,40 +67,32 @@ pub struct Tried {
 }
 
 // Tries a value. Newton's steps do not pass the last value that is taken, so that after a value with a plan the one next to
-// it comes: as far inward as can be.
+// it comes: as far inward as can be. The question is there for the contract: the terms are of it.
 pub fn try_value(
     lows: &[u64],
     highs: &[u64],
     table: &[u64],
     question: Question,
-    sides: Sides,
+    terms: Terms,
     trial: Trial,
 ) -> Tried
-    requires { ⌜ Triable (now lows) (now highs) (now table) (question .total) sides (trial .low) (trial .high) (trial .value) ⌝ }
+    requires { ⌜ Triable (now lows) (now highs) (now table) (question .total) (question .limits) terms (trial .low) (trial .high) (trial .value) ⌝ }
     ensures { λ r. ⌜ Decides (now (lows .entry)) (now (highs .entry)) (question .total) (question .limits) (trial .low) (trial .high) (trial .value) (r .taken) ⌝ }
+    ensures { λ r. ⌜ LastWithin (now (table .entry)) (terms .last) (trial .low) (trial .high) (trial .value) (question .total) (r .row) ⌝ }
 {
-    let total = question.total;
-    let count = lows.len();
-    let row = last_within(table, 2 * count, trial, total);
-    let low = trial.low;
-    let high = trial.high;
-    let value = trial.value;
-    let found = Trial {
-        low,
-        high,
-        value,
-        row,
-    };
-    let pinned = pinned_figures(lows, highs, table, total, sides, found);
-    if question.limits.met(pinned.figures) {
+    let pinned = look(lows, highs, table, terms, trial);
+    let row = pinned.row;
+    if within(terms, pinned) {
         return Tried {
             taken: true,
             inward: Share::GREATEST,
             row,
         };
     }
-    let distance = apart(value, pinned.level);
-    let inward = newton_step(count as u64, question.limits, pinned.figures, distance);
+    let squares = past(pinned.squares, terms.squares);
+    let half = past(pinned.half, terms.half);
+    let distance = apart(trial.value, pinned.level);
+    let inward = newton_step(squares, half, distance, terms.count);
     Tried {
         taken: false,
         inward,
@@ -108,59 +100,31 @@ pub fn try_value(
     }
 }
 
-// A level with the copies left over there, and the row below it.
+// A level with the copies left over there, the row below it, and whether the limits allow the shares there.
 pub struct Levelled {
     pub row: usize,
     pub level: u64,
     pub over: u64,
+    pub planned: bool,
 }
 
-// The level at which the group has its total.
-pub fn level_on(lows: &[u64], highs: &[u64], table: &[u64], total: u64) -> Levelled
-    requires { ⌜ SoundWithTotal (now lows) (now highs) total ⌝ }
-    requires { ⌜ Breakpoints (now lows) (now highs) (now table) ⌝ }
-    requires { ⌜ InReach (now table) (2 * length (now lows)) 0 0 0 total ⌝ }
-    ensures { λ r. ⌜ LevelledOn (now (lows .entry)) (now (highs .entry)) (now (table .entry)) total r ⌝ }
+// The level at which the group has its total, and whether it has a plan: the group itself is one with 0 pinned to 0.
+pub fn level_on(lows: &[u64], highs: &[u64], table: &[u64], terms: Terms) -> Levelled
+    requires { ⌜ Lookable (now lows) (now highs) (now table) terms 0 0 0 ⌝ }
+    ensures { λ r. ⌜ LevelledOn (now (lows .entry)) (now (highs .entry)) (now (table .entry)) terms r ⌝ }
 {
-    let count = lows.len();
     let whole = Trial {
         low: 0,
         high: 0,
         value: 0,
-        row: count,
+        row: terms.last / 2,
     };
-    let k = last_within(table, 2 * count, whole, total);
-    let row = read_row(table, k);
-    let left = total - pinned_total(row, 0, 0, 0);
-    let reach = reach_from(row, 0, 0, left);
+    let pinned = look(lows, highs, table, terms, whole);
+    let planned = within(terms, pinned);
     Levelled {
-        row: k,
-        level: reach.level,
-        over: reach.over,
+        row: pinned.row,
+        level: pinned.level,
+        over: pinned.over,
+        planned,
     }
-}
-
-// Whether the group has a plan; the row is one to look at first.
-pub fn has_plan(
-    lows: &[u64],
-    highs: &[u64],
-    table: &[u64],
-    question: Question,
-    sides: Sides,
-    row: usize,
-) -> bool
-    requires { ⌜ SoundWithTotal (now lows) (now highs) (question .total) ⌝ }
-    requires { ⌜ Breakpoints (now lows) (now highs) (now table) ⌝ }
-    requires { ⌜ BothSides (now lows) (now highs) (question .total) sides ⌝ }
-    requires { ⌜ InReach (now table) (2 * length (now lows)) 0 0 0 (question .total) ⌝ }
-    ensures { λ r. ⌜ r ≡ hasPlan (now (lows .entry)) (now (highs .entry)) (question .total) (question .limits) ⌝ }
-{
-    let whole = Trial {
-        low: 0,
-        high: 0,
-        value: 0,
-        row,
-    };
-    let tried = try_value(lows, highs, table, question, sides, whole);
-    tried.taken
 }

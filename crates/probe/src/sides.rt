@@ -1,13 +1,13 @@
-// The deviation of a pinned group. It is twice its part above the mean, and twice its part below: where the level is above the
+// Half of a pinned group's deviation: its part above the mean, which is as much as its part below. Where the level is above the
 // mean, what lies below are members at their highs; elsewhere, what lies above are members at their lows, and those with one of the copies left over.
 use crate::pinned::Reach;
 use crate::pinned::Trial;
-use model::Deviation;
+use crate::terms::Terms;
 ghost use mathlib.Core.Path.{_≡_};
 ghost use Prim.Native.Nat.{_-_, _≤_};
 ghost use Rattle.model.specs.Shares.{greatestTotal, mostUnits};
 ghost use Rattle.probe.specs.Inner.Tables.{SoundWithTotal};
-ghost use Rattle.probe.specs.Inner.Sides.{BothSides, Doubled, Doubling};
+ghost use Rattle.probe.specs.Inner.Sides.{BothSides, Halved, Halving};
 
 // The sum of n × low − S over the members where that is positive, and of S − n × high likewise.
 pub struct Sides {
@@ -16,7 +16,7 @@ pub struct Sides {
 }
 
 // By how much a number is past another, or 0.
-fn past(a: u64, b: u64) -> u64
+pub(crate) fn past(a: u64, b: u64) -> u64
     ensures { λ r. ⌜ r ≡ a - b ⌝ }
 {
     if a <= b {
@@ -42,26 +42,22 @@ pub fn both_sides(lows: &[u64], highs: &[u64], total: u64) -> Sides
     Sides { above, below }
 }
 
-// The deviation of the pinned group's shares at the level reached.
-pub fn pinned_deviation(
-    count: u64,
-    total: u64,
-    sides: Sides,
-    trial: Trial,
-    reach: Reach,
-) -> Deviation
-    requires { ⌜ count ≤ mostUnits ⌝ }
-    requires { ⌜ total ≤ greatestTotal ⌝ }
-    requires { ⌜ Doubling count total sides trial reach ⌝ }
-    ensures { λ r. ⌜ Doubled count total sides trial reach (r .0) ⌝ }
+// Half of the deviation of the pinned group's shares at the level reached.
+pub fn pinned_half(terms: Terms, trial: Trial, reach: Reach) -> u64
+    requires { ⌜ terms .count ≤ mostUnits ⌝ }
+    requires { ⌜ terms .total ≤ greatestTotal ⌝ }
+    requires { ⌜ Halving terms trial reach ⌝ }
+    ensures { λ r. ⌜ Halved terms trial reach r ⌝ }
 {
+    let count = terms.count;
+    let total = terms.total;
     let value = count * trial.value;
     if total <= count * reach.level {
-        let with_value = sides.below + past(total, value);
-        return Deviation(2 * (with_value - past(total, count * trial.high)));
+        let with_value = terms.below + past(total, value);
+        return with_value - past(total, count * trial.high);
     }
-    let with_value = sides.above + past(value, total);
+    let with_value = terms.above + past(value, total);
     let kept = with_value - past(count * trial.low, total);
     let next = past(count * (reach.level + 1), total);
-    Deviation(2 * (kept + reach.over * next))
+    kept + reach.over * next
 }

@@ -12,8 +12,8 @@ use Rattle.model.specs.declared.Limits.{Limits}
 use Rattle.probe.specs.Inner.Rows.{rowAt}
 use Rattle.probe.specs.Laws.Pinned.{pinned}
 use Rattle.probe.specs.Inner.Probes.{pinnedTotal, Probeable, InReach, IntoReach}
-use Rattle.probe.specs.declared.sides.Sides.{Sides}
-use Rattle.probe.specs.Inner.Sides.{BothSides}
+use Rattle.probe.specs.declared.terms.Terms.{Terms}
+use Rattle.probe.specs.Inner.Terms.{Termed}
 use Rattle.probe.specs.Inner.Verdicts.{Triable, Decides}
 use Rattle.probe.specs.Laws.Probes.{probeable}
 use Rattle.probe.specs.Laws.Reaching.{short-fails, long-fails, taken-reach}
@@ -45,13 +45,13 @@ module _ {lows highs table : List ℕ} {total : ℕ} {limits : Limits} {i end sh
     probes = probeable (way .tabled .sound) (way .tabled .held) (pinned (way .tabled .sound .ranges) i w (way .here) small)
 
     -- where the others can make up for it, it can be tried
-    pub triable : {sides : Sides} → BothSides lows highs total sides → InReach table last low high w total → Triable lows highs table total sides low high w
-    triable summed reach = record {
+    pub triable : {terms : Terms} → Termed lows highs total limits terms → InReach table last low high w total → Triable lows highs table total limits terms low high w
+    triable termed reach = record {
       sound = way .tabled .sound;
       held = way .tabled .held;
-      summed = summed;
+      termed = termed;
       asked = record { pinnedLows = set lows i w; pinnedHighs = set highs i w; pin = pinned (way .tabled .sound .ranges) i w (way .here) small };
-      reach = reach;
+      reach = rw (termed .group .ended) reach;
     }
 
     -- and what a trial tells is whether it is taken

@@ -12,8 +12,8 @@ use Rattle.model.specs.Plans.{taken}
 use Rattle.model.specs.Laws.Tests.{clash}
 use Rattle.model.specs.declared.Limits.{Limits}
 use Rattle.probe.specs.Inner.Probes.{MadeUp}
-use Rattle.probe.specs.declared.sides.Sides.{Sides}
-use Rattle.probe.specs.Inner.Sides.{BothSides}
+use Rattle.probe.specs.declared.terms.Terms.{Terms}
+use Rattle.probe.specs.Inner.Terms.{Termed}
 use Rattle.probe.specs.Inner.Verdicts.{Triable}
 use Rattle.probe.specs.Laws.Reaching.{reach-between}
 use Rattle.narrow.specs.Inner.Edges.{Amid, Search}
@@ -39,8 +39,8 @@ module _ {lows highs table : List ℕ} {total : ℕ} {limits : Limits} {i outer 
       ]
 
   -- so it can be tried
-  pub search-triable : {sides : Sides} → BothSides lows highs total sides → Triable lows highs table total sides (getD lows i 0) (getD highs i 0) v
-  search-triable summed = triable (search .way) _ small summed between-reach
+  pub search-triable : {terms : Terms} → Termed lows highs total limits terms → Triable lows highs table total limits terms (getD lows i 0) (getD highs i 0) v
+  search-triable termed = triable (search .way) _ small termed between-reach
 
   -- and takes inner's place where it is taken
   pub search-in : test v ≡ true → Search lows highs table total limits i outer v

@@ -6,10 +6,8 @@ use lib.ListN.{length, getD}
 use Rattle.model.specs.Levels.{clamp, growth}
 use Rattle.probe.specs.declared.rows.Row.{Row}
 use Rattle.probe.specs.declared.pinned.Reach.{Reach}
-use Rattle.probe.specs.declared.probing.Levelled.{Levelled}
 use Rattle.probe.specs.Inner.Rows.{rowAt}
 use Rattle.probe.specs.Inner.Tables.{greatestPart}
-use Rattle.probe.specs.Inner.Pinned.{Reached}
 
 -- T at a row's level of the group with v in place of a member's own
 unfoldable pub pinnedTotal : Row → ℕ → ℕ → ℕ → ℕ
@@ -50,15 +48,9 @@ pub record IntoReach (table : List ℕ) (last low high v total r : ℕ) : Type 0
   pub within : InReach table last low high v total → r ≡ v
 
 -- the copies left over at a row, divided among the members that grow there, but for the pinned one
-pub record Divided (row : Row) (low high left : ℕ) (reach : Reach) : Type 0 where
-  pub none : left ≡ 0 → (reach .level ≡ row .mark) × (reach .growing ≡ 0) × (reach .over ≡ 0)
-  pub some : 0 < left → (steps : ℕ) × (reach .level ≡ row .mark + steps)
-      × (reach .growing + (row .highs + growth low high (row .mark)) ≡ row .lows)
-      × (reach .growing * steps + reach .over ≡ left) × (reach .over < reach .growing)
-
--- a level with copies left over that gives the group its total, and the row below it
-pub record LevelledOn (lows highs table : List ℕ) (total : ℕ) (at : Levelled) : Type 0 where
-  pub found : LastWithin table (2 * length lows) 0 0 0 total (at .row)
-  pub mark : ℕ
-  pub moving : ℕ
-  pub reached : Reached lows highs total mark moving (at .level) (at .over)
+pub record Divided (row : Row) (low high copies : ℕ) (reach : Reach) : Type 0 where
+  pub all : reach .copies ≡ copies
+  pub level : reach .level ≡ row .mark + reach .each
+  pub divides : reach .growing * reach .each + reach .over ≡ copies
+  pub none : copies ≡ 0 → (reach .growing ≡ 0) × (reach .each ≡ 0) × (reach .over ≡ 0)
+  pub some : 0 < copies → (reach .growing + (row .highs + growth low high (row .mark)) ≡ row .lows) × (reach .over < reach .growing)

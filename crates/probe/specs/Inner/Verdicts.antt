@@ -1,19 +1,22 @@
--- What is asked of a probe, and the pinned group's figures. Assumes nothing.
-use Prim.Native.Nat.{ℕ, _*_}
-use mathlib.Core.Bool.{Bool}
+-- What is asked of a probe, and what it finds of the pinned group. Assumes nothing.
+use Prim.Native.Nat.{ℕ, _*_, _≤_}
+use mathlib.Core.Bool.{Bool, _&&_}
 use mathlib.Core.List.{List}
 use mathlib.Core.Path.{_≡_}
-use lib.ListN.{length}
-use Rattle.model.specs.Figures.{figuresOf}
-use Rattle.model.specs.Levels.{levelled}
+use lib.Dec.{leb}
+use Rattle.model.specs.Shares.{sumOf}
+use Rattle.model.specs.Figures.{deviation}
+use Rattle.model.specs.Levels.{topped}
 use Rattle.model.specs.Plans.{hasPlan}
-use Rattle.model.specs.declared.Figures.{Figures}
 use Rattle.model.specs.declared.Limits.{Limits}
-use Rattle.probe.specs.declared.sides.Sides.{Sides}
-use Rattle.probe.specs.Inner.Sides.{BothSides}
-use Rattle.probe.specs.Inner.Tables.{SoundWithTotal, Breakpoints}
-use Rattle.probe.specs.Inner.Pinned.{Pin}
-use Rattle.probe.specs.Inner.Probes.{InReach}
+use Rattle.probe.specs.declared.probing.Levelled.{Levelled}
+use Rattle.probe.specs.declared.probing.Pinned.{Pinned}
+use Rattle.probe.specs.declared.terms.Terms.{Terms}
+use Rattle.probe.specs.Inner.Tables.{SoundWithTotal, Breakpoints, square}
+use Rattle.probe.specs.Inner.Terms.{GroupTerms, LimitTerms, Termed}
+use Rattle.probe.specs.Inner.Sides.{greatestHalf}
+use Rattle.probe.specs.Inner.Pinned.{Pin, Reached}
+use Rattle.probe.specs.Inner.Probes.{InReach, LastWithin}
 
 -- some ranges have v in place of what a member with this low and high has
 pub record Asked (lows highs : List ℕ) (low high v : ℕ) : Type 0 where
@@ -21,18 +24,48 @@ pub record Asked (lows highs : List ℕ) (low high v : ℕ) : Type 0 where
   pub pinnedHighs : List ℕ
   pub pin : Pin lows highs low high v pinnedLows pinnedHighs
 
--- the figures of the levelled shares in all such ranges
-pub record PinnedFigures (lows highs : List ℕ) (low high v total : ℕ) (figures : Figures) : Type 0 where
-  pub is : {lows′ highs′ : List ℕ} → Pin lows highs low high v lows′ highs′ → figures ≡ figuresOf (length lows′) total (levelled lows′ highs′ total)
+-- a value that the other members can make up for can be looked up
+pub record Lookable (lows highs table : List ℕ) (terms : Terms) (low high v : ℕ) : Type 0 where
+  pub sound : SoundWithTotal lows highs (terms .total)
+  pub held : Breakpoints lows highs table
+  pub summed : GroupTerms lows highs terms
+  pub asked : Asked lows highs low high v
+  pub reach : InReach table (terms .last) low high v (terms .total)
 
--- a value that the other members can make up for
-pub record Triable (lows highs table : List ℕ) (total : ℕ) (sides : Sides) (low high v : ℕ) : Type 0 where
+-- and tried, within limits
+pub record Triable (lows highs table : List ℕ) (total : ℕ) (limits : Limits) (terms : Terms) (low high v : ℕ) : Type 0 where
   pub sound : SoundWithTotal lows highs total
   pub held : Breakpoints lows highs table
-  pub summed : BothSides lows highs total sides
+  pub termed : Termed lows highs total limits terms
   pub asked : Asked lows highs low high v
-  pub reach : InReach table (2 * length lows) low high v total
+  pub reach : InReach table (terms .last) low high v total
 
--- whether all such ranges have a plan
+-- the level that the total reaches in some ranges, half of the deviation and the sum of squares of the shares there
+pub record Figured (lows highs : List ℕ) (terms : Terms) (pinned : Pinned) : Type 0 where
+  pub mark : ℕ
+  pub moving : ℕ
+  pub reached : Reached lows highs (terms .total) mark moving (pinned .level) (pinned .over)
+  pub halves : 2 * pinned .half ≡ deviation (terms .count) (terms .total) (topped lows highs (pinned .level) (pinned .over))
+  pub small : pinned .half ≤ greatestHalf
+  pub squares : pinned .squares ≡ sumOf square (topped lows highs (pinned .level) (pinned .over))
+
+-- the row found, and what is found of all ranges with the value
+pub record PinnedFigures (lows highs table : List ℕ) (terms : Terms) (low high v : ℕ) (pinned : Pinned) : Type 0 where
+  pub found : LastWithin table (terms .last) low high v (terms .total) (pinned .row)
+  pub is : {lows′ highs′ : List ℕ} → Pin lows highs low high v lows′ highs′ → Figured lows′ highs′ terms pinned
+
+-- both figures are within the terms
+abbrev pub withinTerms : Terms → Pinned → Bool
+withinTerms terms pinned = leb (pinned .half) (terms .half) && leb (pinned .squares) (terms .squares)
+
+-- whether all ranges with the value have a plan
 pub record Decides (lows highs : List ℕ) (total : ℕ) (limits : Limits) (low high v : ℕ) (taken : Bool) : Type 0 where
   pub is : {lows′ highs′ : List ℕ} → Pin lows highs low high v lows′ highs′ → taken ≡ hasPlan lows′ highs′ total limits
+
+-- a level with copies left over that gives the group its total, the row below it, and whether the group has a plan within whatever limits the terms are of
+pub record LevelledOn (lows highs table : List ℕ) (terms : Terms) (at : Levelled) : Type 0 where
+  pub found : LastWithin table (terms .last) 0 0 0 (terms .total) (at .row)
+  pub mark : ℕ
+  pub moving : ℕ
+  pub reached : Reached lows highs (terms .total) mark moving (at .level) (at .over)
+  pub decides : {limits : Limits} → LimitTerms limits terms → at .planned ≡ hasPlan lows highs (terms .total) limits

@@ -75,33 +75,30 @@ module _ {lows highs table lows′ highs′ : List ℕ} {total low high v : ℕ}
           (between .rises) below past (pinned-span pin between)
 
       -- the level found by dividing is one that the total reaches
-      reached-some : (reach : Reach) (steps : ℕ) → reach .level ≡ row .mark + steps
-          → reach .growing + (row .highs + growth low high (row .mark)) ≡ row .lows
-          → reach .growing * steps + reach .over ≡ left → reach .over < reach .growing
+      reached-some : (reach : Reach) → Divided row low high left reach
           → Reached lows′ highs′ total (row .mark) (reach .growing) (reach .level) (reach .over)
-      reached-some reach steps level moving divides under =
-          rw level (reached-between lows′ highs′ total (row .mark) (next .mark) (row .lows) (row .highs + growth low high (row .mark))
-          (between .rises) below past (pinned-span pin between) (reach .growing) steps (reach .over)
-          (held .sums (suc k) (follows some) .share) moving (omega (arith, pinned-total k (found .upTo), below)) under)
+      reached-some reach divided =
+          let (moving, under) = divided .some some in
+          rw (divided .level) (reached-between lows′ highs′ total (row .mark) (next .mark) (row .lows) (row .highs + growth low high (row .mark))
+          (between .rises) below past (pinned-span pin between) (reach .growing) (reach .each) (reach .over)
+          (held .sums (suc k) (follows some) .share) moving (omega (arith, pinned-total k (found .upTo), below, divided .divides)) under)
 
     pub reached : (reach : Reach) → Divided row low high left reach
         → Reached lows′ highs′ total (row .mark) (reach .growing) (reach .level) (reach .over)
     reached reach divided =
         elim (decLt 0 left) [
-          | yes some ↦
-              let (steps, level, moving, divides, under) = divided .some some in
-              reached-some some reach steps level moving divides under
+          | yes some ↦ reached-some some reach divided
           | no none ↦
-              let (level, growing, over) = divided .none (omega arith) in
+              let (growing, each, over) = divided .none (omega arith) in
+              let level : reach .level ≡ row .mark = omega (arith, divided .level) in
               rw (level, growing, over) (reached-mark lows′ highs′ total (row .mark) (held .sums k (found .upTo) .share)
               (omega (arith, pinned-total k (found .upTo), found .holds)))
         ]
 
--- those that grow and the copies left over are at most as many as the lows passed
-pub divided-few : {row : Row} {low high left : ℕ} {reach : Reach} → Divided row low high left reach → row .lows ≤ mostUnits
-    → (reach .growing ≤ mostUnits) × (reach .over ≤ mostUnits)
-divided-few {left = left} divided few =
-    elim (decLt 0 left) [
-      | yes some ↦ let (steps, level, moving, divides, under) = divided .some some in (omega arith, omega arith)
-      | no none ↦ let (level, growing, over) = divided .none (omega arith) in (omega arith, omega arith)
+-- the copies left over at the level are at most as many as the lows passed
+pub divided-few : {row : Row} {low high copies : ℕ} {reach : Reach} → Divided row low high copies reach → row .lows ≤ mostUnits → reach .over ≤ mostUnits
+divided-few {copies = copies} divided few =
+    elim (decLt 0 copies) [
+      | yes some ↦ let (moving, under) = divided .some some in omega arith
+      | no none ↦ let (growing, each, over) = divided .none (omega arith) in omega arith
     ]

@@ -9,10 +9,14 @@ use Rattle.model.specs.Shares.{greatestShare, sum}
 use Rattle.model.specs.Plans.{taken}
 use Rattle.model.specs.Laws.Tests.{clash}
 use Rattle.model.specs.declared.Limits.{Limits}
+use Rattle.probe.specs.declared.terms.Terms.{Terms}
 use Rattle.probe.specs.Inner.Rows.{rowAt}
 use Rattle.probe.specs.Inner.Tables.{SoundWithTotal, Breakpoints}
 use Rattle.probe.specs.Laws.Pinned.{pinned, unpinned}
 use Rattle.probe.specs.Inner.Probes.{pinnedTotal, InReach}
+use Rattle.probe.specs.Inner.Terms.{Termed}
+use Rattle.probe.specs.Inner.Verdicts.{Lookable}
+use Rattle.probe.specs.Laws.Terms.{lookable}
 use Rattle.probe.specs.Laws.Verdicts.{least-total, greatest-total, too-much, too-little}
 
 -- what lies between two values in reach is in reach
@@ -23,11 +27,22 @@ reach-between from upTo m above below = record { least = omega (arith, upTo .lea
 
 module _ {lows highs table : List ℕ} {total : ℕ} (sound : SoundWithTotal lows highs total) (held : Breakpoints lows highs table) where
   -- a group that has shares is in reach itself
-  pub shares-reach : sum lows ≤ total → total ≤ sum highs → InReach table (2 * length lows) 0 0 0 total
+  shares-reach : sum lows ≤ total → total ≤ sum highs → InReach table (2 * length lows) 0 0 0 total
   shares-reach least greatest = record {
     least = rw (← least-total sound (unpinned (sound .ranges)) held) least;
     greatest = rw (← greatest-total sound (unpinned (sound .ranges)) held) greatest;
   }
+
+  -- so that it can be looked up
+  pub shares-lookable : sum lows ≤ total → total ≤ sum highs → {limits : Limits} {terms : Terms} → Termed lows highs total limits terms
+      → Lookable lows highs table terms 0 0 0
+  shares-lookable least greatest termed = lookable (record {
+    sound = sound;
+    held = held;
+    termed = termed;
+    asked = record { pinnedLows = lows; pinnedHighs = highs; pin = unpinned (sound .ranges) };
+    reach = rw (termed .group .ended) (shares-reach least greatest);
+  })
 
   module _ (limits : Limits) (i : ℕ) (here : i < length lows) (w : ℕ) (share : w ≤ greatestShare) where
     -- a value too small for the others is not taken

@@ -1,4 +1,4 @@
--- On one side of the mean, the shares at a level are bounds: the deviation is twice what the bounds add up to there. Assumes nothing.
+-- On one side of the mean, the shares at a level are bounds: half of the deviation is what the bounds add up to there. Assumes nothing.
 use Prim.Native.Nat.{ℕ, suc, _+_, _*_, _≤_, _<_}
 use mathlib.Core.List.{List}
 use mathlib.Core.Path.{_≡_, refl, sym, ap, _∙_}
@@ -15,10 +15,11 @@ use Rattle.model.specs.Laws.Lists.{ranges-at, within-length}
 use Rattle.model.specs.Laws.Spread.{sumOf-bound}
 use Rattle.probe.specs.declared.pinned.Reach.{Reach}
 use Rattle.probe.specs.declared.pinned.Trial.{Trial}
-use Rattle.probe.specs.declared.sides.Sides.{Sides}
+use Rattle.probe.specs.declared.terms.Terms.{Terms}
 use Rattle.probe.specs.Inner.Tables.{SoundWithTotal, greatestPart}
 use Rattle.probe.specs.Inner.Pinned.{Pin, Reached}
-use Rattle.probe.specs.Inner.Sides.{aboveMean, belowMean, BothSides, Doubled, Doubling}
+use Rattle.probe.specs.Inner.Sides.{aboveMean, belowMean, Halved, Halving}
+use Rattle.probe.specs.Inner.Terms.{GroupTerms}
 use Rattle.probe.specs.Laws.Pinned.{reached-sum, reached-adds}
 
 module _ (n total : ℕ) where
@@ -63,19 +64,22 @@ module _ (n total : ℕ) where
   pub below-small : total ≤ greatestPart → (x : ℕ) → belowMean n total x ≤ greatestPart
   below-small small x = omega arith
 
--- what is told of half a deviation, and what the shares add up to, in plain numbers
-half : {d own own′ sides sides′ : ℕ} (parts value more : ℕ) → d + 2 * own ≡ 2 * (sides + (value + more))
-    → parts + own′ ≡ sides′ + (value + more) → own′ ≡ own → sides ≡ sides′ → d ≡ 2 * parts
+-- what is told of one side, and what the shares add up to there, in plain numbers
+half : {r own own′ sides sides′ : ℕ} (parts value more : ℕ) → r + own ≡ sides + (value + more)
+    → parts + own′ ≡ sides′ + (value + more) → own′ ≡ own → sides ≡ sides′ → r ≡ parts
 half parts value more told adds same held = omega arith
 
 fits : {own own′ sides sides′ : ℕ} (parts value : ℕ) → parts + own′ ≡ sides′ + value → own′ ≡ own → sides ≡ sides′ → own ≤ sides + value
 fits parts value adds same held = omega arith
 
-module _ {lows highs lows′ highs′ : List ℕ} {total mark : ℕ} (sound : SoundWithTotal lows highs total) {sides : Sides} (held : BothSides lows highs total sides)
+module _ {lows highs lows′ highs′ : List ℕ} {mark : ℕ} {terms : Terms} (sound : SoundWithTotal lows highs (terms .total)) (held : GroupTerms lows highs terms)
     (trial : Trial) (pin : Pin lows highs (trial .low) (trial .high) (trial .value) lows′ highs′)
-    (reach : Reach) (reached : Reached lows′ highs′ total mark (reach .growing) (reach .level) (reach .over)) where
+    (reach : Reach) (reached : Reached lows′ highs′ (terms .total) mark (reach .growing) (reach .level) (reach .over)) where
   abbrev n : ℕ
-  n = length lows
+  n = terms .count
+
+  abbrev total : ℕ
+  total = terms .total
 
   abbrev w : ℕ
   w = reach .level
@@ -89,7 +93,10 @@ module _ {lows highs lows′ highs′ : List ℕ} {total mark : ℕ} (sound : So
   at-level f none = omega (arith, reached-sum (pin .ranges) reached f, reached .sums f, pin .sums f w, ap (λ (t : ℕ). reach .over * t) none)
 
   many : length shares ≡ n
-  many = sym (within-length (topped-within (pin .ranges) w (reach .over)) .0) ∙ pin .count
+  many = sym (within-length (topped-within (pin .ranges) w (reach .over)) .0) ∙ pin .count ∙ sym (held .counted)
+
+  few : n ≤ mostUnits
+  few = omega (arith, held .counted, sound .few)
 
   adds : sum shares ≡ total
   adds = reached-adds (pin .ranges) reached
@@ -106,28 +113,28 @@ module _ {lows highs lows′ highs′ : List ℕ} {total mark : ℕ} (sound : So
       let zero : belowMean n total (suc w) ≡ 0 = omega arith in
       (omega arith, ap (λ (t : ℕ). reach .over * t) zero ∙ omega arith)
 
-  pub doubled : {d : ℕ} → Doubled n total sides trial reach d → d ≡ deviation n total shares
-  doubled {d} told =
+  pub halved : {r : ℕ} → Halved terms trial reach r → 2 * r ≡ deviation n total shares
+  halved {r} told =
       elim (decLe total (n * w)) [
         | yes past ↦
             let none = none-below past in
-            let half-told : d + 2 * belowMean n total (trial .high) ≡ 2 * (sides .below + (belowMean n total (trial .value) + reach .over * belowMean n total (suc w))) =
-            told .high past ∙ ap (λ (t : ℕ). 2 * (sides .below + t)) (omega (arith, none .1)) in
-            half _ _ _ half-told (at-level (belowMean n total) (none .0))
-            (high-part n total (trial .low) (trial .high) w (pin .ordered) past) (held .highsBelow ∙ sym (highs-sum n total (sound .ranges) w past)) ∙ sym twice-below
+            let half-told : r + belowMean n total (trial .high) ≡ terms .below + (belowMean n total (trial .value) + reach .over * belowMean n total (suc w)) =
+            told .high past ∙ ap (λ (t : ℕ). terms .below + t) (omega (arith, none .1)) in
+            ap (λ (t : ℕ). 2 * t) (half _ _ _ half-told (at-level (belowMean n total) (none .0))
+            (high-part n total (trial .low) (trial .high) w (pin .ordered) past) (held .highsBelow ∙ sym (highs-sum n total (sound .ranges) w past))) ∙ sym twice-below
         | no under ↦
             let less : n * w < total = omega arith in
             let none : aboveMean n total w ≡ 0 = omega arith in
-            half _ _ _ (told .low less) (at-level (aboveMean n total) none)
-            (low-part n total (trial .low) (trial .high) w (pin .ordered) (omega arith)) (held .lowsAbove ∙ sym (lows-sum n total (sound .ranges) w (omega arith))) ∙ sym twice-above
+            ap (λ (t : ℕ). 2 * t) (half _ _ _ (told .low less) (at-level (aboveMean n total) none)
+            (low-part n total (trial .low) (trial .high) w (pin .ordered) (omega arith)) (held .lowsAbove ∙ sym (lows-sum n total (sound .ranges) w (omega arith)))) ∙ sym twice-above
       ]
 
   -- the sums are small, and the member's own part is in them
-  pub doubling : reach .over ≤ mostUnits → Doubling n total sides trial reach
-  doubling few = record {
+  pub halving : reach .over ≤ mostUnits → Halving terms trial reach
+  halving few-over = record {
     aboveSmall =
-        let all : sumOf (aboveMean n total) lows ≤ n * greatestPart = sumOf-bound _ _ lows (λ i here.
-        above-small n total (sound .few) _ (omega (arith, ranges-at (sound .ranges) i here))) in
+        let all : sumOf (aboveMean n total) lows ≤ length lows * greatestPart = sumOf-bound _ _ lows (λ i here.
+        above-small n total few _ (omega (arith, ranges-at (sound .ranges) i here))) in
         omega (arith, held .lowsAbove, sound .few);
     belowSmall =
         let all : sumOf (belowMean n total) highs ≤ length highs * greatestPart = sumOf-bound _ _ highs (λ i here. below-small n total (omega (arith, sound .small)) _) in
@@ -136,7 +143,7 @@ module _ {lows highs lows′ highs′ : List ℕ} {total mark : ℕ} (sound : So
     highShare = pin .highest;
     valueShare = pin .value;
     levelShare = reached .share;
-    overFew = few;
+    overFew = few-over;
     highFits = λ past. fits _ _ (pin .sums (belowMean n total) w)
         (high-part n total (trial .low) (trial .high) w (pin .ordered) past) (held .highsBelow ∙ sym (highs-sum n total (sound .ranges) w past));
     lowFits = λ less. fits _ _ (pin .sums (aboveMean n total) w)

@@ -3,7 +3,6 @@ use Prim.Native.Nat.{ℕ, _-_, _*_, _≤_, _<_}
 use mathlib.Core.Bool.{false}
 use mathlib.Core.List.{List}
 use mathlib.Core.Path.{_≡_, sym, ap, _∙_}
-use native.Mathlib.Nat.{mul-le-mul}
 use native.Mathlib.Omega.{arith, by-contra}
 use lib.Dec.{leb}
 use lib.ListN.{length}
@@ -19,7 +18,9 @@ use Rattle.model.specs.Laws.Levelled.{topped-within}
 use Rattle.model.specs.Laws.Lists.{sum-sumOf, within-at, within-length, ranges-at}
 use Rattle.model.specs.Laws.Spread.{cauchy-schwarz, sumOf-bound}
 use Rattle.model.specs.Laws.Tests.{right-fails}
+use Rattle.probe.specs.declared.probing.Pinned.{Pinned}
 use Rattle.probe.specs.declared.rows.Row.{Row}
+use Rattle.probe.specs.declared.terms.Terms.{Terms}
 use Rattle.probe.specs.Inner.Rows.{rowAt}
 use Rattle.probe.specs.Inner.Tables.{SoundWithTotal, Breakpoints, greatestPart, itself, square}
 use Rattle.probe.specs.Laws.Tables.{Small, small-square}
@@ -27,6 +28,9 @@ use Rattle.probe.specs.Inner.Pinned.{Pin, Reached}
 use Rattle.probe.specs.Laws.Pinned.{pinned-span, reached-adds, reached-figures}
 use Rattle.probe.specs.Inner.Probes.{pinnedTotal}
 use Rattle.probe.specs.Laws.Probes.{pinned-total}
+use Rattle.probe.specs.Inner.Terms.{LimitTerms}
+use Rattle.probe.specs.Inner.Verdicts.{Lookable, Figured, withinTerms}
+use Rattle.probe.specs.Laws.Terms.{reach-last}
 
 -- a sum of parts over shares in the ranges is at most n times the greatest
 topped-small : {lows highs : List ℕ} → Ranges lows highs → {f : ℕ → ℕ} → Small f → (w r : ℕ)
@@ -52,16 +56,14 @@ module _ {lows highs lows′ highs′ : List ℕ} {total low high v : ℕ} (soun
     unfolding spread
     pinned-figures = rw (reached-figures (pin .ranges) reached (length lows′), pin .count, is-deviation, is-squares)
 
-    -- the spread does not go below zero, nor past what a number holds
+    -- the spread does not go below zero, and the sum of squares is small
     pub squares-enough : total * total ≤ length lows * q
     squares-enough =
         rw (is-squares, ← pin .count, within-length (topped-within (pin .ranges) w r) .0, ← reached-adds (pin .ranges) reached)
         (cauchy-schwarz (topped lows′ highs′ w r))
 
-    pub squares-small : length lows * q ≤ mostUnits * (mostUnits * greatestPart)
-    squares-small =
-        let few : q ≤ mostUnits * greatestPart = omega (arith, topped-small (pin .ranges) small-square w r, pin .count, sound .few) in
-        mul-le-mul (sound .few) few
+    pub squares-small : q ≤ mostUnits * greatestPart
+    squares-small = omega (arith, topped-small (pin .ranges) small-square w r, pin .count, sound .few)
 
   module _ {table : List ℕ} (held : Breakpoints lows highs table) where
     -- the pinned lows and highs add up to T at the first and at the last row
@@ -102,3 +104,18 @@ module _ {lows highs lows′ highs′ : List ℕ} {total low high v : ℕ} (soun
     unfolding hasPlan
     decided limits least greatest are =
         rw (are, le-leb (sum lows′) total (rw least-total least), le-leb total (sum highs′) (rw greatest-total greatest))
+
+-- so a look decides: what is within the terms of limits is within the limits
+pub decides : {lows highs table lows′ highs′ : List ℕ} {terms : Terms} {low high v : ℕ} {pinned : Pinned} {limits : Limits}
+    → Lookable lows highs table terms low high v → LimitTerms limits terms → Pin lows highs low high v lows′ highs′ → Figured lows′ highs′ terms pinned
+    → withinTerms terms pinned ≡ hasPlan lows′ highs′ (terms .total) limits
+decides {lows} {terms = terms} {pinned = pinned} {limits = limits} asked allowed pin figured =
+    let counted = asked .summed .counted in
+    let twice = rw counted at (figured .halves) in
+    let enough = squares-enough (asked .sound) pin (figured .reached) twice (figured .squares) in
+    let small = squares-small (asked .sound) pin (figured .reached) twice (figured .squares) in
+    let squares-within = rw counted at (allowed .squares .is (pinned .squares) small (rw counted enough)) in
+    let reach = reach-last asked in
+    rw (allowed .halves .is (pinned .half) (figured .small), squares-within)
+    (decided (asked .sound) pin (asked .held) limits (reach .least) (reach .greatest)
+    (pinned-figures (asked .sound) pin (figured .reached) twice (figured .squares)))

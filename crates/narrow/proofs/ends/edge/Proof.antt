@@ -15,12 +15,12 @@ use Rattle.narrow.proofs.ends.edge.Statement.{statement}
 use Rattle.narrow.proofs.ends.edge.Tie as tie
 
 abbrev Inv-loop : tie.InvT-loop
-Inv-loop lows highs table question sides member low high outer₀ inner₀ inward₀ row₀ tries₀ outer inner inward row tries =
+Inv-loop lows highs table question terms member low high outer₀ inner₀ inward₀ row₀ tries₀ outer inner inward row tries =
     Straddle (taken lows highs (question .total) (question .limits) member) outer₀ inner₀ outer inner
     × Search lows highs table (question .total) (question .limits) member outer inner
 
 abbrev μ-loop : tie.MeasureT-loop
-μ-loop lows highs table question sides member low high outer₀ inner₀ inward₀ row₀ tries₀ outer inner inward row tries = apart outer inner
+μ-loop lows highs table question terms member low high outer₀ inner₀ inward₀ row₀ tries₀ outer inner inward row tries = apart outer inner
 
 mul-low : tie.Need-mul-low Inv-loop μ-loop
 mul-low c = search needs
@@ -79,7 +79,7 @@ loop-again : tie.Need-loop-again Inv-loop μ-loop
 loop-again c =
     let v = c .before .before .before in
     let inv = turn v .loop .inv in
-    let passes = sym (told (inv .1 .way) _ (nearer v .2) (c .before .before .try-value .ensures)) ∙ c .if2 .taken in
+    let passes = sym (told (inv .1 .way) _ (nearer v .2) (c .before .before .try-value .ensures .0)) ∙ c .if2 .taken in
     (straddle-in (test v) _ _ _ _ _ (inv .0) (v .next-value .ensures) passes, search-in (inv .1) (v .next-value .ensures) (nearer v .2) passes)
 
 loop-less-2 : tie.Need-loop-less-2 Inv-loop μ-loop
@@ -89,7 +89,7 @@ loop-again-2 : tie.Need-loop-again-2 Inv-loop μ-loop
 loop-again-2 c =
     let v = c .before .before .before in
     let inv = turn v .loop .inv in
-    let fails = sym (told (inv .1 .way) _ (nearer v .2) (c .before .before .try-value .ensures)) ∙ c .if2 .left in
+    let fails = sym (told (inv .1 .way) _ (nearer v .2) (c .before .before .try-value .ensures .0)) ∙ c .if2 .left in
     (straddle-out (test v) _ _ _ _ _ (inv .0) (v .next-value .ensures) fails, search-out (inv .1) (v .next-value .ensures) (nearer v .2) fails)
 
 returns : tie.Need-returns Inv-loop μ-loop

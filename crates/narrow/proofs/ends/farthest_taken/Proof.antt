@@ -27,13 +27,11 @@ mul-high c = search needs
 shared-slice-read-high : tie.Need-shared-slice-read-high
 shared-slice-read-high c = search needs
 
-mul-last : tie.Need-mul-last
-mul-last c = search needs
-
 into-reach-requires : tie.Need-into-reach-requires
 into-reach-requires c κs =
-    let way = c .before .before .before .before .before .before .before .pre .0 in
-    (probes way _ (way .small), (way .tabled .sound .small, room way))
+    let p = c .before .before .before .before .before .before .before .pre in
+    let way = p .0 in
+    (rw (p .1 .group .ended) (probes way _ (way .small)), (way .tabled .sound .small, room way))
 
 -- what the move gives
 module _ (c : tie.After-into-reach) where
@@ -59,7 +57,7 @@ module _ (c : tie.After-into-reach) where
   way = start .pre .0
 
   there : MovedIntoReach way (c .into-reach .result)
-  there = moved way (c .into-reach .ensures)
+  there = moved way (rw (start .pre .1 .group .ended) at (c .into-reach .ensures))
 
 try-value-requires : tie.Need-try-value-requires
 try-value-requires c κs = triable (way c) _ (there c .small) (start c .pre .1) (there c .inReach)
@@ -67,7 +65,7 @@ try-value-requires c κs = triable (way c) _ (there c .small) (start c .pre .1) 
 -- what the trial tells
 module _ (c : tie.After-try-value) where
   is-taken : c .try-value .result .taken ≡ taken (lows (c .before)) (highs (c .before)) (total (c .before)) (limits (c .before)) (i (c .before)) (c .before .into-reach .result)
-  is-taken = told (way (c .before)) _ (there (c .before) .small) (c .try-value .ensures)
+  is-taken = told (way (c .before)) _ (there (c .before) .small) (c .try-value .ensures .0)
 
 returns-2 : tie.Need-returns-2
 returns-2 c = nearest-reach (there (c .before .before) .nearest) (sym (is-taken (c .before)) ∙ c .if2 .taken)
@@ -106,7 +104,6 @@ farthest-taken-spec =
     shared-slice-read-low
     mul-high
     shared-slice-read-high
-    mul-last
     into-reach-requires
     try-value-requires
     returns-2

@@ -4,18 +4,18 @@ use borrow.Author.Tests.{not-true, not-false}
 use native.Mathlib.Omega.{arith}
 use mathlib.Core.List.{List}
 use mathlib.Core.Path.{_≡_, refl, sym, _∙_}
-use Prim.Native.Nat.{ℕ, _+_, _-_, _*_, _≤_}
+use Prim.Native.Nat.{ℕ, _+_, _-_, _≤_}
 use lib.ListN.{length, getD}
 use Rattle.model.specs.Levels.{topped}
-use Rattle.model.specs.Plans.{turnOf, narrowedLows, narrowedHighs}
+use Rattle.model.specs.Plans.{hasPlan, turnOf, narrowedLows, narrowedHighs}
 use Rattle.model.specs.Laws.Lists.{ranges-at}
 use Rattle.model.specs.Laws.Narrowing.{narrowedLows-length, narrowedHighs-length, narrowedLows-at, narrowedHighs-at}
 use Rattle.model.specs.Laws.Turns.{found-turn}
 use Rattle.model.specs.Laws.Writing.{Filled, filled-none, filled-more, filled-all}
 use Rattle.model.specs.Laws.Walk.{Ahead, ahead-share, ahead-step}
-use Rattle.probe.specs.Inner.Probes.{InReach}
-use Rattle.probe.specs.Inner.Sides.{BothSides}
-use Rattle.probe.specs.Laws.Reaching.{shares-reach}
+use Rattle.probe.specs.Inner.Terms.{Termed}
+use Rattle.probe.specs.Laws.Reaching.{shares-lookable}
+use Rattle.probe.specs.Laws.Terms.{level-reached, level-planned}
 use Rattle.model.specs.Laws.Bounds.{share-at-small}
 use Rattle.model.specs.Laws.Sound.{shares-had}
 use Rattle.narrow.specs.Inner.Tabled.{HasPlan}
@@ -25,14 +25,14 @@ use Rattle.narrow.proofs.ranges.narrow_on.Statement.{statement}
 use Rattle.narrow.proofs.ranges.narrow_on.Tie as tie
 
 abbrev Inv-loop : tie.InvT-loop
-Inv-loop lows highs table question starts₀ stops₀ sides row v left₀ i₀ starts stops left i =
+Inv-loop lows highs table question starts₀ stops₀ terms row v left₀ i₀ starts stops left i =
     (i ≤ length lows)
     × Filled (narrowedLows lows highs (question .total) (question .limits)) starts₀ starts i
     × Filled (narrowedHighs lows highs (question .total) (question .limits)) stops₀ stops i
     × Ahead lows highs v left₀ left i
 
 abbrev μ-loop : tie.MeasureT-loop
-μ-loop lows highs table question starts₀ stops₀ sides row v left₀ i₀ starts stops left i = length lows - i
+μ-loop lows highs table question starts₀ stops₀ terms row v left₀ i₀ starts stops left i = length lows - i
 
 -- the narrowed lists are as long as the group
 module _ (s : tie.Start Inv-loop μ-loop) where
@@ -42,32 +42,30 @@ module _ (s : tie.Start Inv-loop μ-loop) where
   many-highs : length (narrowedHighs (s .args .lows .now) (s .args .highs .now) (s .args .question .total) (s .args .question .limits)) ≡ length (s .args .lows .now)
   many-highs = narrowedHighs-length _ _ _ _
 
--- the group's own total is in reach
-in-reach : (s : tie.Start Inv-loop μ-loop) → InReach (s .args .table .now) (2 * length (s .args .lows .now)) 0 0 0 (s .args .question .total)
-in-reach s = shares-reach (s .pre .1 .0 .sound) (s .pre .1 .0 .held) (s .pre .0 .low) (s .pre .0 .high)
-
-both-sides-requires : tie.Need-both-sides-requires Inv-loop μ-loop
-both-sides-requires c κs = c .before .before .before .before .before .pre .1 .0 .sound
+terms-of-requires : tie.Need-terms-of-requires Inv-loop μ-loop
+terms-of-requires c κs = c .before .before .before .before .before .pre .1 .0 .sound
 
 level-on-requires : tie.Need-level-on-requires Inv-loop μ-loop
 level-on-requires c κs =
     let s = c .before .before .before .before .before .before in
-    (s .pre .1 .0 .sound, (s .pre .1 .0 .held, in-reach s))
+    shares-lookable (s .pre .1 .0 .sound) (s .pre .1 .0 .held) (s .pre .0 .low) (s .pre .0 .high) (c .terms-of .ensures)
 
--- the start, seen from the level
-abbrev start : tie.After-level-on Inv-loop μ-loop → tie.Start Inv-loop μ-loop
-start c = c .before .before .before .before .before .before .before
+-- the start, and what is told there, seen from the level
+module _ (c : tie.After-level-on Inv-loop μ-loop) where
+  abbrev start : tie.Start Inv-loop μ-loop
+  start = c .before .before .before .before .before .before .before
 
-has-plan-requires : tie.Need-has-plan-requires Inv-loop μ-loop
-has-plan-requires c κs =
-    let s = start c in
-    (s .pre .1 .0 .sound, (s .pre .1 .0 .held, (c .before .both-sides .ensures, in-reach s)))
+  termed : Termed (start .args .lows .now) (start .args .highs .now) (start .args .question .total) (start .args .question .limits) (c .before .terms-of .result)
+  termed = c .before .terms-of .ensures
+
+  is-planned : c .level-on .result .planned ≡ hasPlan (start .args .lows .now) (start .args .highs .now) (start .args .question .total) (start .args .question .limits)
+  is-planned = level-planned termed (c .level-on .ensures)
 
 returns : tie.Need-returns Inv-loop μ-loop
 unfolding turnOf
 returns c =
-    let s = start (c .before .before) in
-    (rw (shares-had (s .pre .0), ← c .before .has-plan .ensures, not-true (c .before .has-plan .result) (c .if1 .taken)), (refl, refl))
+    let l = c .before .before in
+    (rw (shares-had (start l .pre .0), ← is-planned l, not-true (l .level-on .result .planned) (c .if1 .taken)), (refl, refl))
 
 -- the group has a plan
 module _ (c : tie.Else1 Inv-loop μ-loop) where
@@ -77,7 +75,7 @@ module _ (c : tie.Else1 Inv-loop μ-loop) where
   has-one : HasPlan (begun .args .lows .now) (begun .args .highs .now) (begun .args .question .total) (begun .args .question .limits)
   has-one = record {
     sound = begun .pre .0 .sound;
-    found = rw (← c .before .has-plan .ensures) (not-false (c .before .has-plan .result) (c .if1 .left));
+    found = rw (← is-planned (c .before .before)) (not-false (c .before .before .level-on .result .planned) (c .if1 .left));
   }
 
 loop-holds : tie.Need-loop-holds Inv-loop μ-loop
@@ -132,15 +130,12 @@ module _ (c : tie.After-clamp Inv-loop μ-loop) where
   abbrev share : ℕ
   share = c .clamp .result + more
 
-  summed : BothSides lows highs (from .args .question .total) (turn .before .before .before .before .both-sides .result)
-  summed = turn .before .before .before .before .both-sides .ensures
-
   -- the share is the one at the level, which some plan gives the member
   is-share : share ≡ getD (topped lows highs v left) i 0
   is-share = sym (ahead-share lows highs i (omega arith) (omega (arith, from .pre .0 .sound .paired)) v left (turn .loop .left) (c .clamp .result) more (c .clamp .ensures) (c .before .extra .ensures) (turn .loop .inv .3))
 
   planned : Planned lows highs (from .args .question .total) (from .args .question .limits) i share
-  planned = rw is-share (levelled-planned (has-one (turn .before)) (turn .before .before .before .level-on .ensures .reached) i (omega arith))
+  planned = rw is-share (levelled-planned (has-one (turn .before)) (level-reached (termed (turn .before .before .before)) (turn .before .before .before .level-on .ensures)) i (omega arith))
 
   next : Ahead lows highs v left (turn .loop .left - more) (i + 1)
   next = ahead-step lows highs i (omega arith) (omega (arith, from .pre .0 .sound .paired)) v left (turn .loop .left) (c .clamp .result) more (c .clamp .ensures) (c .before .extra .ensures) (turn .loop .inv .3)
@@ -152,7 +147,7 @@ sub-left : tie.Need-sub-left Inv-loop μ-loop
 sub-left c = search needs
 
 farthest-taken-requires : tie.Need-farthest-taken-requires Inv-loop μ-loop
-farthest-taken-requires c κs = (to-low (planned c) (from c .pre .1 .0), summed c)
+farthest-taken-requires c κs = (to-low (planned c) (from c .pre .1 .0), termed (turn c .before .before .before))
 
 mul-starts : tie.Need-mul-starts Inv-loop μ-loop
 mul-starts c = omega (arith, from (c .before) .pre .0 .sound .few)
@@ -161,7 +156,7 @@ slice-write-starts : tie.Need-slice-write-starts Inv-loop μ-loop
 slice-write-starts c = omega (arith, turn (c .before) .loop .inv .1 .size, from (c .before) .pre .1 .1 .0)
 
 farthest-taken-requires-2 : tie.Need-farthest-taken-requires-2 Inv-loop μ-loop
-farthest-taken-requires-2 c κs = (to-high (planned (c .before)) (from (c .before) .pre .1 .0), summed (c .before))
+farthest-taken-requires-2 c κs = (to-high (planned (c .before)) (from (c .before) .pre .1 .0), termed (turn (c .before) .before .before .before))
 
 mul-stops : tie.Need-mul-stops Inv-loop μ-loop
 mul-stops c = omega (arith, from (c .before .before) .pre .0 .sound .few)
@@ -210,9 +205,8 @@ narrow-on-spec =
     (tie.spec
     Inv-loop
     μ-loop
-    both-sides-requires
+    terms-of-requires
     level-on-requires
-    has-plan-requires
     returns
     loop-holds
     mul-low

@@ -8,7 +8,13 @@ use Rattle.probe.proofs.pinned.reach_from.Statement.{statement}
 use Rattle.probe.proofs.pinned.reach_from.Tie as tie
 
 returns : tie.Need-returns
-returns c = record { none = λ e. (refl, refl, refl); some = λ h. absurd (omega arith) }
+returns c = record {
+  all = refl;
+  level = omega arith;
+  divides = omega arith;
+  none = λ e. (refl, refl, refl);
+  some = λ h. absurd (omega arith);
+}
 
 growth-requires : tie.Need-growth-requires
 growth-requires c κs = search needs
@@ -23,27 +29,30 @@ add-growing c = omega (arith, more (c .before))
 sub-growing : tie.Need-sub-growing
 sub-growing c = omega (arith, more (c .before .before))
 
-div-t7 : tie.Need-div-t7
-div-t7 c = omega (arith, more (c .before .before))
+div-each : tie.Need-div-each
+div-each c = omega (arith, more (c .before .before))
 
 add-t8 : tie.Need-add-t8
 add-t8 c =
     let s = c .before .before .before .before .before in
     let growing = s .args .row .lows - (s .args .row .highs + c .before .before .before .growth .result) in
-    omega (arith, div-le-self (s .args .left) growing)
+    omega (arith, div-le-self (s .args .copies) growing)
 
 rem-t9 : tie.Need-rem-t9
 rem-t9 c = omega (arith, more (c .before .before .before))
 
 returns-2 : tie.Need-returns-2
-returns-2 c = record {
-  none = λ e. absurd (omega arith);
-  some = λ h.
-      let rises = more (c .before .before .before) in
-      (_, refl, rw (← c .before .before .before .growth .ensures) (omega arith), div-add-mod _ _, mod-lt _ (omega arith));
-}
+returns-2 c =
+    let rises = more (c .before .before .before) in
+    record {
+      all = refl;
+      level = refl;
+      divides = div-add-mod _ _;
+      none = λ e. absurd (omega arith);
+      some = λ h. (rw (← c .before .before .before .growth .ensures) (omega arith), mod-lt _ (omega arith));
+    }
 
 pub reach-from-spec : {M : Type 1} → statement M
 reach-from-spec =
     tie.close
-    (tie.spec returns growth-requires add-growing sub-growing div-t7 add-t8 rem-t9 returns-2)
+    (tie.spec returns growth-requires add-growing sub-growing div-each add-t8 rem-t9 returns-2)

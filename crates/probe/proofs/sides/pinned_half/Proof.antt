@@ -7,16 +7,16 @@ use mathlib.Core.Path.{_≡_, ap}
 use Prim.Native.Nat.{ℕ, suc, _+_, _-_, _*_, _≤_}
 use Rattle.model.specs.Shares.{greatestShare, mostUnits}
 use Rattle.probe.specs.Inner.Tables.{greatestPart}
-use Rattle.probe.specs.Inner.Sides.{Doubling}
-use Rattle.probe.proofs.sides.pinned_deviation.Statement.{statement}
-use Rattle.probe.proofs.sides.pinned_deviation.Tie as tie
+use Rattle.probe.specs.Inner.Sides.{Halving}
+use Rattle.probe.proofs.sides.pinned_half.Statement.{statement}
+use Rattle.probe.proofs.sides.pinned_half.Tie as tie
 
 -- what is asked, and n times a share
 module _ (s : tie.Start) where
-  can : Doubling (s .args .count) (s .args .total) (s .args .sides) (s .args .trial) (s .args .reach)
+  can : Halving (s .args .terms) (s .args .trial) (s .args .reach)
   can = s .pre .1 .1
 
-  times : (x : ℕ) → x ≤ suc greatestShare → s .args .count * x ≤ mostUnits * suc greatestShare
+  times : (x : ℕ) → x ≤ suc greatestShare → s .args .terms .count * x ≤ mostUnits * suc greatestShare
   times x share = mul-le-mul (s .pre .0) share
 
 mul-value : tie.Need-mul-value
@@ -50,30 +50,27 @@ module _ (c : tie.After-past2) where
   abbrev begun : tie.Start
   begun = high-start (c .before .before .before)
 
-  own-fits : c .past2 .result ≤ begun .args .sides .below + c .before .before .before .past .result
+  own-fits : c .past2 .result ≤ begun .args .terms .below + c .before .before .before .past .result
   own-fits =
       within _ (c .past2 .ensures) (c .before .before .before .past .ensures)
       (can begun .highFits (c .before .before .before .before .if1 .taken))
 
-sub-t15 : tie.Need-sub-t15
-sub-t15 c = own-fits c
-
-mul-t16 : tie.Need-mul-t16
-mul-t16 c = omega (arith, c .before .before .before .past .ensures, can (begun c) .belowSmall, begun c .pre .1 .0)
+sub-result : tie.Need-sub-result
+sub-result c = own-fits c
 
 -- what is computed, in plain numbers
-doubles : (sum value own value′ own′ more more′ : ℕ) → own ≤ sum + value → value ≡ value′ → own ≡ own′ → more ≡ more′
-    → 2 * (sum + value - own + more) + 2 * own′ ≡ 2 * (sum + (value′ + more′))
-doubles sum value own value′ own′ more more′ fits same-value same-own same-more = omega arith
+halves : (sum value own value′ own′ more more′ : ℕ) → own ≤ sum + value → value ≡ value′ → own ≡ own′ → more ≡ more′
+    → sum + value - own + more + own′ ≡ sum + (value′ + more′)
+halves sum value own value′ own′ more more′ fits same-value same-own same-more = omega arith
 
-doubles-none : (sum value own value′ own′ : ℕ) → own ≤ sum + value → value ≡ value′ → own ≡ own′
-    → 2 * (sum + value - own) + 2 * own′ ≡ 2 * (sum + value′)
-doubles-none sum value own value′ own′ fits same-value same-own = omega arith
+halves-none : (sum value own value′ own′ : ℕ) → own ≤ sum + value → value ≡ value′ → own ≡ own′ → sum + value - own + own′ ≡ sum + value′
+halves-none sum value own value′ own′ fits same-value same-own = omega arith
 
 returns : tie.Need-returns
 returns c = record {
-  high = λ past. doubles-none _ _ _ _ _ (own-fits c) (c .before .before .before .past .ensures) (c .past2 .ensures);
+  high = λ past. halves-none _ _ _ _ _ (own-fits c) (c .before .before .before .past .ensures) (c .past2 .ensures);
   low = λ less. absurd (omega (arith, c .before .before .before .before .if1 .taken));
+  small = omega (arith, c .before .before .before .past .ensures, can (begun c) .belowSmall, begun c .pre .1 .0);
 }
 
 past-requires-3 : tie.Need-past-requires-3
@@ -100,7 +97,7 @@ module _ (c : tie.After-past4) where
   abbrev from : tie.Start
   from = low-start (c .before .before .before)
 
-  own-in : c .past4 .result ≤ from .args .sides .above + c .before .before .before .past3 .result
+  own-in : c .past4 .result ≤ from .args .terms .above + c .before .before .before .past3 .result
   own-in =
       within _ (c .past4 .ensures) (c .before .before .before .past3 .ensures)
       (can from .lowFits (c .before .before .before .before .if1 .left))
@@ -127,14 +124,14 @@ module _ (c : tie.After-past5) where
       let next : c .past5 .result ≤ greatestPart = omega (arith, c .past5 .ensures, times s (s .args .reach .level + 1) (omega (arith, can s .levelShare))) in
       mul-le-mul (can s .overFew) next
 
-mul-t11 : tie.Need-mul-t11
-mul-t11 c = omega (arith, over-small (c .before))
+  kept-small : from at .args .terms .above + at .before .before .before .past3 .result ≤ mostUnits * greatestPart + greatestPart
+  kept-small = omega (arith, value-small (at .before .before .before), can (from at) .aboveSmall)
 
-add-t17 : tie.Need-add-t17
-add-t17 c = let d = at (c .before) in omega (arith, over-small (c .before), value-small (d .before .before .before), can (from d) .aboveSmall)
+mul-result : tie.Need-mul-result
+mul-result c = omega (arith, over-small (c .before))
 
-mul-t18 : tie.Need-mul-t18
-mul-t18 c = let d = at (c .before) in omega (arith, over-small (c .before), value-small (d .before .before .before), can (from d) .aboveSmall)
+add-result : tie.Need-add-result
+add-result c = omega (arith, over-small (c .before), kept-small (c .before))
 
 returns-2 : tie.Need-returns-2
 returns-2 c =
@@ -142,12 +139,13 @@ returns-2 c =
     let s = from d in
     record {
       high = λ past. absurd (omega (arith, d .before .before .before .before .if1 .left));
-      low = λ less. doubles _ _ _ _ _ _ _ (own-in d) (d .before .before .before .past3 .ensures) (d .past4 .ensures)
+      low = λ less. halves _ _ _ _ _ _ _ (own-in d) (d .before .before .before .past3 .ensures) (d .past4 .ensures)
           (ap (λ (t : ℕ). s .args .reach .over * t) (rw add-one at (c .before .past5 .ensures)));
+      small = omega (arith, over-small (c .before), kept-small (c .before));
     }
 
-pub pinned-deviation-spec : {M : Type 1} → statement M
-pinned-deviation-spec =
+pub pinned-half-spec : {M : Type 1} → statement M
+pinned-half-spec =
     tie.close
     (tie.spec
     mul-value
@@ -156,8 +154,7 @@ pinned-deviation-spec =
     add-with-value
     mul-past
     past-requires-2
-    sub-t15
-    mul-t16
+    sub-result
     returns
     past-requires-3
     add-with-value-2
@@ -167,7 +164,6 @@ pinned-deviation-spec =
     add-past
     mul-past-3
     past-requires-5
-    mul-t11
-    add-t17
-    mul-t18
+    mul-result
+    add-result
     returns-2)

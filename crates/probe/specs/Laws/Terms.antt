@@ -1,0 +1,89 @@
+-- The terms of a turn: what the limits allow as numbers, and the last row of the table. Assumes nothing.
+use Prim.Native.Nat.{ℕ, _+_, _-_, _*_, _/_, _≤_, _<_}
+use mathlib.Core.List.{List}
+use mathlib.Core.Logic.{_↔_}
+use mathlib.Core.Path.{_≡_, sym, _∙_}
+use native.Mathlib.Decide.{decLe}
+use native.Mathlib.Nat.{mul-le-mul, le-div-iff-mul-le}
+use native.Mathlib.Omega.{arith}
+use lib.Dec.{leb}
+use lib.ListN.{length}
+use borrow.Author.Tests.{le-leb, lt-leb}
+use Rattle.model.specs.Plans.{hasPlan}
+use Rattle.model.specs.Shares.{mostUnits}
+use Rattle.probe.specs.declared.probing.Levelled.{Levelled}
+use Rattle.probe.specs.declared.terms.Terms.{Terms}
+use Rattle.model.specs.declared.Limit.the-variants.{Any, AtMost}
+use Rattle.model.specs.declared.Limits.{Limits}
+use Rattle.probe.specs.Inner.Sides.{greatestHalf}
+use Rattle.probe.specs.Inner.Tables.{greatestPart}
+use Rattle.probe.specs.Inner.Terms.{HalfAllowed, SquaresAllowed, Termed}
+use Rattle.probe.specs.Inner.Pinned.{Reached}
+use Rattle.probe.specs.Inner.Probes.{InReach, LastWithin}
+use Rattle.probe.specs.Inner.Verdicts.{Lookable, Triable, LevelledOn}
+
+-- two tests that hold together are the same
+same-test : (a b c d : ℕ) → (a ≤ b → c ≤ d) → (c ≤ d → a ≤ b) → leb a b ≡ leb c d
+same-test a b c d there back =
+    elim (decLe a b) [
+      | yes p ↦ le-leb a b p ∙ sym (le-leb c d (there p))
+      | no p ↦ lt-leb a b (omega arith) ∙ sym (elim (decLe c d) [ yes q ↦ absurd (p (back q)) | no q ↦ lt-leb c d (omega arith) ])
+    ]
+
+-- more than any half where nothing is limited, else half of the limit
+pub half-any : (r : ℕ) → greatestHalf ≤ r → HalfAllowed Any r
+half-any r large = record { is = λ h small. le-leb h r (omega arith) }
+
+pub half-most : (most : ℕ) → HalfAllowed (AtMost most) (most / 2)
+half-most most = record { is = λ h small. same-test h (most / 2) (2 * h) most (λ p. omega arith) (λ p. omega arith) }
+
+module _ (n total : ℕ) where
+  -- more than any sum of squares where nothing is limited
+  pub squares-any : (r : ℕ) → mostUnits * greatestPart ≤ r → SquaresAllowed Any n total r
+  squares-any r large = record { is = λ q small enough. le-leb q r (omega arith) }
+
+  -- and where the limit is past every spread
+  pub squares-every : (most r : ℕ) → mostUnits * greatestPart ≤ r → mostUnits * (mostUnits * greatestPart) ≤ most → n ≤ mostUnits → SquaresAllowed (AtMost most) n total r
+  squares-every most r large limit few = record {
+    is = λ q small enough. le-leb q r (omega arith) ∙ sym (le-leb (n * q - total * total) most (omega (arith, mul-le-mul few small)));
+  }
+
+  -- else the quotient: of what the limit and the square of the total are, by the members
+  pub squares-most : (most : ℕ) → 0 < n → SquaresAllowed (AtMost most) n total ((most + total * total) / n)
+  squares-most most some = record {
+    is = λ q small enough.
+        let quotient : (q ≤ (most + total * total) / n) ↔ (q * n ≤ most + total * total) = le-div-iff-mul-le some in
+        same-test q ((most + total * total) / n) (n * q - total * total) most (λ p. omega (arith, quotient .0 p)) (λ p. quotient .1 (omega arith));
+  }
+
+-- without members the spread is 0
+pub squares-none : (total most r : ℕ) → mostUnits * greatestPart ≤ r → SquaresAllowed (AtMost most) 0 total r
+squares-none total most r large = record { is = λ q small enough. le-leb q r (omega arith) ∙ sym (le-leb (0 * q - total * total) most (omega arith)) }
+
+module _ {lows highs table : List ℕ} {terms : Terms} {low high v : ℕ} (asked : Lookable lows highs table terms low high v) where
+  -- the last row of the terms is that of the table
+  pub reach-last : InReach table (2 * length lows) low high v (terms .total)
+  reach-last = rw (asked .summed .ended) at (asked .reach)
+
+  pub found-last : {k : ℕ} → LastWithin table (terms .last) low high v (terms .total) k → LastWithin table (2 * length lows) low high v (terms .total) k
+  found-last found = rw (asked .summed .ended) at found
+
+-- what can be tried can be looked up
+pub lookable : {lows highs table : List ℕ} {total : ℕ} {limits : Limits} {terms : Terms} {low high v : ℕ}
+    → Triable lows highs table total limits terms low high v → Lookable lows highs table terms low high v
+lookable asked = record {
+  sound = rw (asked .termed .totals) (asked .sound);
+  held = asked .held;
+  summed = asked .termed .group;
+  asked = asked .asked;
+  reach = rw (asked .termed .totals) (asked .reach);
+}
+
+-- what is found of the group itself, with the total and the limits that the terms are of
+module _ {lows highs table : List ℕ} {total : ℕ} {limits : Limits} {terms : Terms} {at : Levelled} (termed : Termed lows highs total limits terms)
+    (on : LevelledOn lows highs table terms at) where
+  pub level-reached : Reached lows highs total (on .mark) (on .moving) (at .level) (at .over)
+  level-reached = rw (termed .totals) at (on .reached)
+
+  pub level-planned : at .planned ≡ hasPlan lows highs total limits
+  level-planned = rw (termed .totals) at (on .decides (termed .allowed))
