@@ -66,7 +66,7 @@ fn edge(
     gap: Gap,
 ) -> u64
     requires { ⌜ Search (now lows) (now highs) (now table) (question .total) (question .limits) (gap .member) (gap .outer) (gap .inner) ⌝ }
-    requires { ⌜ Termed (now lows) (now highs) (question .total) (question .limits) terms ⌝ }
+    requires { ⌜ Termed (now lows) (now highs) (now table) (question .total) (question .limits) terms ⌝ }
     ensures { λ r. ⌜ Edge (taken (now (lows .entry)) (now (highs .entry)) (question .total) (question .limits) (gap .member)) (gap .outer) (gap .inner) r ⌝ }
 {
     let member = gap.member;
@@ -116,7 +116,7 @@ pub(crate) fn farthest_taken(
     way: Way,
 ) -> u64
     requires { ⌜ Approach (now lows) (now highs) (now table) (question .total) (question .limits) (way .member) (way .end) (way .share) ⌝ }
-    requires { ⌜ Termed (now lows) (now highs) (question .total) (question .limits) terms ⌝ }
+    requires { ⌜ Termed (now lows) (now highs) (now table) (question .total) (question .limits) terms ⌝ }
     ensures { λ r. ⌜ Reaches (taken (now (lows .entry)) (now (highs .entry)) (question .total) (question .limits) (way .member)) (way .end) (way .share) r ⌝ }
 {
     // Some plan gives the share.

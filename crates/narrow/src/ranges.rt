@@ -40,7 +40,7 @@ fn narrow_on(
     ensures { λ r. ⌜ now (starts .exit) ≡ afterTurn r (narrowedLows (now (lows .entry)) (now (highs .entry)) (question .total) (question .limits)) (now (starts .entry)) ⌝ }
     ensures { λ r. ⌜ now (stops .exit) ≡ afterTurn r (narrowedHighs (now (lows .entry)) (now (highs .entry)) (question .total) (question .limits)) (now (stops .entry)) ⌝ }
 {
-    let terms = terms_of(lows, highs, question);
+    let terms = terms_of(lows, highs, table, question);
     let levelled = level_on(lows, highs, table, terms);
     if !levelled.planned {
         return Turn::NoPlan(12);
@@ -92,8 +92,8 @@ fn narrow_with(
     if !has_shares(lows, highs, total) {
         return Turn::NoPlan(11);
     }
-    build(lows, highs, starts, stops, table);
-    let turn = narrow_on(lows, highs, table, question, starts, stops);
+    let size = build(lows, highs, starts, stops, table);
+    let turn = narrow_on(lows, highs, &table[..size], question, starts, stops);
     let Turn::Narrowed = turn else {
         return turn;
     };

@@ -1,6 +1,7 @@
 -- The laws, a file for each topic.
 pub mod Figures
 pub mod Fills
+pub mod Kept
 pub mod Orders
 pub mod Pinned
 pub mod Probes

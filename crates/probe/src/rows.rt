@@ -2,7 +2,7 @@
 ghost use mathlib.Core.Path.{_≡_};
 ghost use Prim.Native.Nat.{_+_, _*_, _≤_};
 ghost use lib.ListN.{length};
-ghost use Rattle.probe.specs.Inner.Rows.{rowAt, RowWritten};
+ghost use Rattle.probe.specs.Inner.Rows.{rowAt, lastRow, RowWritten};
 
 // A breakpoint: its level, T there and the sum of squares of the shares there, and how many lows and highs are passed.
 pub struct Row {
@@ -11,6 +11,14 @@ pub struct Row {
     pub squares: u64,
     pub lows: u64,
     pub highs: u64,
+}
+
+// The last row of a table.
+pub fn last_row(table: &[u64]) -> usize
+    requires { ⌜ 5 ≤ length (now table) ⌝ }
+    ensures { λ r. ⌜ r ≡ lastRow (now (table .entry)) ⌝ }
+{
+    table.len() / 5 - 1
 }
 
 // Row k of a table.

@@ -69,7 +69,7 @@ pub fn next_row(lows: &[u64], highs: &[u64], starts: &[u64], stops: &[u64], row:
     requires { ⌜ SoundRanges (now lows) (now highs) ⌝ }
     requires { ⌜ Risen (now lows) (now highs) (now starts) (now stops) ⌝ }
     requires { ⌜ RowReached (now lows) (now highs) (now starts) (now stops) row ⌝ }
-    requires { ⌜ row .lows + row .highs < 2 * length (now lows) ⌝ }
+    requires { ⌜ row .lows + row .highs < 2 * length (now starts) ⌝ }
     ensures { λ r. ⌜ NextRow (now (lows .entry)) (now (highs .entry)) (now (starts .entry)) (now (stops .entry)) row r ⌝ }
 {
     let a = row.lows as usize;

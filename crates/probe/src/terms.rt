@@ -1,8 +1,10 @@
 // What the trials of a turn compare with: the numbers of a group, and its limits as numbers.
+use crate::rows::last_row;
 use crate::sides::both_sides;
 use model::Limit;
 use model::Question;
 ghost use Prim.Native.Nat.{_≤_};
+ghost use lib.ListN.{length};
 ghost use Rattle.model.specs.Shares.{greatestTotal, mostUnits};
 ghost use Rattle.probe.specs.Inner.Tables.{SoundWithTotal};
 ghost use Rattle.probe.specs.Inner.Terms.{HalfAllowed, SquaresAllowed, Termed};
@@ -54,9 +56,10 @@ fn squares_of(limit: Limit, count: u64, total: u64) -> u64
 }
 
 // The terms of a group's turn.
-pub fn terms_of(lows: &[u64], highs: &[u64], question: Question) -> Terms
+pub fn terms_of(lows: &[u64], highs: &[u64], table: &[u64], question: Question) -> Terms
     requires { ⌜ SoundWithTotal (now lows) (now highs) (question .total) ⌝ }
-    ensures { λ r. ⌜ Termed (now (lows .entry)) (now (highs .entry)) (question .total) (question .limits) r ⌝ }
+    requires { ⌜ 5 ≤ length (now table) ⌝ }
+    ensures { λ r. ⌜ Termed (now (lows .entry)) (now (highs .entry)) (now (table .entry)) (question .total) (question .limits) r ⌝ }
 {
     let count = lows.len() as u64;
     let total = question.total;
@@ -66,7 +69,7 @@ pub fn terms_of(lows: &[u64], highs: &[u64], question: Question) -> Terms
     let sides = both_sides(lows, highs, total);
     Terms {
         count,
-        last: 2 * lows.len(),
+        last: last_row(table),
         total,
         half: half_of(deviation),
         squares: squares_of(spread, count, total),

@@ -9,7 +9,7 @@ use lib.ListN.{length, getD, set}
 use Rattle.model.specs.Shares.{greatestShare}
 use Rattle.model.specs.Plans.{taken}
 use Rattle.model.specs.declared.Limits.{Limits}
-use Rattle.probe.specs.Inner.Rows.{rowAt}
+use Rattle.probe.specs.Inner.Rows.{rowAt, lastRow}
 use Rattle.probe.specs.Laws.Pinned.{pinned}
 use Rattle.probe.specs.Inner.Probes.{pinnedTotal, Probeable, InReach, IntoReach}
 use Rattle.probe.specs.declared.terms.Terms.{Terms}
@@ -22,7 +22,7 @@ use Rattle.narrow.specs.Laws.Edges.{Nearest}
 
 module _ {lows highs table : List ℕ} {total : ℕ} {limits : Limits} {i end share : ℕ} (way : Approach lows highs table total limits i end share) where
   abbrev last : ℕ
-  last = 2 * length lows
+  last = lastRow table
 
   abbrev low : ℕ
   low = getD lows i 0
@@ -45,7 +45,7 @@ module _ {lows highs table : List ℕ} {total : ℕ} {limits : Limits} {i end sh
     probes = probeable (way .tabled .sound) (way .tabled .held) (pinned (way .tabled .sound .ranges) i w (way .here) small)
 
     -- where the others can make up for it, it can be tried
-    pub triable : {terms : Terms} → Termed lows highs total limits terms → InReach table last low high w total → Triable lows highs table total limits terms low high w
+    pub triable : {terms : Terms} → Termed lows highs table total limits terms → InReach table last low high w total → Triable lows highs table total limits terms low high w
     triable termed reach = record {
       sound = way .tabled .sound;
       held = way .tabled .held;

@@ -39,7 +39,7 @@ module _ {lows highs table : List ℕ} {total : ℕ} {limits : Limits} {i outer 
       ]
 
   -- so it can be tried
-  pub search-triable : {terms : Terms} → Termed lows highs total limits terms → Triable lows highs table total limits terms (getD lows i 0) (getD highs i 0) v
+  pub search-triable : {terms : Terms} → Termed lows highs table total limits terms → Triable lows highs table total limits terms (getD lows i 0) (getD highs i 0) v
   search-triable termed = triable (search .way) _ small termed between-reach
 
   -- and takes inner's place where it is taken

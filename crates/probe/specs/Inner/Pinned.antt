@@ -16,7 +16,7 @@ pub record Pin (lows highs : List ℕ) (low high v : ℕ) (lows′ highs′ : Li
   pub value : v ≤ greatestShare
   pub sums : (f : ℕ → ℕ) (w : ℕ)
       → sumOf f (clamped lows′ highs′ w) + f (clamp low high w) ≡ sumOf f (clamped lows highs w) + f v
-  pub clear : {m w a b : ℕ} → Span lows highs m w a b → (m < low → w ≤ low) × (m < high → w ≤ high)
+  pub clear : {m w a b : ℕ} → Span lows highs m w a b → low < high → (m < low → w ≤ low) × (m < high → w ≤ high)
 
 -- the level w with r copies left over gives the group its total; from m to w, c members move
 pub record Reached (lows highs : List ℕ) (total m c w r : ℕ) : Type 0 where

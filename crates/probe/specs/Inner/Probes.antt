@@ -6,7 +6,7 @@ use lib.ListN.{length, getD}
 use Rattle.model.specs.Levels.{clamp, growth}
 use Rattle.probe.specs.declared.rows.Row.{Row}
 use Rattle.probe.specs.declared.pinned.Reach.{Reach}
-use Rattle.probe.specs.Inner.Rows.{rowAt}
+use Rattle.probe.specs.Inner.Rows.{rowAt, lastRow}
 use Rattle.probe.specs.Inner.Tables.{greatestPart}
 
 -- T at a row's level of the group with v in place of a member's own
@@ -38,7 +38,7 @@ pub record InReach (table : List ℕ) (last low high v total : ℕ) : Type 0 whe
 
 -- the same for a value of member i of a group, whose table has twice as many rows after the first
 abbrev pub MadeUp : List ℕ → List ℕ → List ℕ → ℕ → ℕ → ℕ → Type 0
-MadeUp lows highs table total i v = InReach table (2 * length lows) (getD lows i 0) (getD highs i 0) v total
+MadeUp lows highs table total i v = InReach table (lastRow table) (getD lows i 0) (getD highs i 0) v total
 
 -- v moved up by what is short of the total, or down by what is too much
 pub record IntoReach (table : List ℕ) (last low high v total r : ℕ) : Type 0 where

@@ -1,5 +1,5 @@
 -- A row of a breakpoint table in a list of numbers. Assumes nothing.
-use Prim.Native.Nat.{ℕ, _+_, _*_}
+use Prim.Native.Nat.{ℕ, _+_, _-_, _*_, _/_}
 use mathlib.Core.List.{List}
 use mathlib.Core.Logic.{_≢_}
 use mathlib.Core.Path.{_≡_}
@@ -15,6 +15,10 @@ rowAt table k = record {
   lows = getD table (5 * k + 3) 0;
   highs = getD table (5 * k + 4) 0;
 }
+
+-- the last row of a table, which has room for its rows and no more
+unfoldable pub lastRow : List ℕ → ℕ
+lastRow table = length table / 5 - 1
 
 -- row k is written, and every other row is as it was
 pub record RowWritten (k : ℕ) (row : Row) (before after : List ℕ) : Type 0 where

@@ -4,16 +4,20 @@ use mathlib.Core.List.{List}
 use mathlib.Core.Path.{_≡_}
 use lib.ListN.{length}
 use Rattle.probe.specs.declared.rows.Row.{Row}
+use Rattle.probe.specs.Inner.Kept.{Kept}
 use Rattle.probe.specs.Inner.Orders.{Ordered}
 use Rattle.probe.specs.Inner.Spans.{Parted}
-use Rattle.probe.specs.Laws.Spans.{span}
 use Rattle.probe.specs.Inner.Tables.{Sums, SpanTo}
 
--- the bounds in rising order, and a row reached on the way up
+-- the bounds of the members with several values in rising order
 pub record Risen (lows highs starts stops : List ℕ) : Type 0 where
-  pub startsFrom : Ordered 1 (length lows) lows starts
-  pub stopsFrom : Ordered 1 (length highs) highs stops
+  pub keptLows : List ℕ
+  pub keptHighs : List ℕ
+  pub kept : Kept lows highs keptLows keptHighs
+  pub startsFrom : Ordered 1 (length keptLows) keptLows starts
+  pub stopsFrom : Ordered 1 (length keptHighs) keptHighs stops
 
+-- a row reached on the way up
 pub record RowReached (lows highs starts stops : List ℕ) (row : Row) : Type 0 where
   pub sums : Sums lows highs row
   pub partedLows : Parted (row .mark) (row .mark) (row .lows) starts

@@ -6,7 +6,7 @@ use lib.ListN.{length}
 use Rattle.model.specs.Shares.{Ranges, greatestShare, greatestTotal, sumOf, mostUnits}
 use Rattle.model.specs.Levels.{clamped}
 use Rattle.probe.specs.declared.rows.Row.{Row}
-use Rattle.probe.specs.Inner.Rows.{rowAt}
+use Rattle.probe.specs.Inner.Rows.{rowAt, lastRow}
 use Rattle.probe.specs.Inner.Spans.{Span}
 
 -- 01: a group of at most 256 units, with a total of at most 256,000,000
@@ -35,14 +35,15 @@ pub record Sums (lows highs : List ℕ) (row : Row) : Type 0 where
 abbrev pub SpanTo : List ℕ → List ℕ → Row → ℕ → Type 0
 SpanTo lows highs row w = Span lows highs (row .mark) w (row .lows) (row .highs)
 
--- the breakpoint table of a group: a row for level 0 and one for each bound, rising
+-- the breakpoint table of a group: a row for level 0 and one for each bound of the members with several values, rising
 pub record Breakpoints (lows highs table : List ℕ) : Type 0 where
-  pub room : 5 * (2 * length lows) + 5 ≤ length table
+  pub room : 5 * lastRow table + 5 ≤ length table
+  pub few : lastRow table ≤ 2 * length lows
   pub first : rowAt table 0 .mark ≡ 0
-  pub sums : (k : ℕ) → k ≤ 2 * length lows → Sums lows highs (rowAt table k)
-  pub spans : (k : ℕ) → k < 2 * length lows → SpanTo lows highs (rowAt table k) (rowAt table (suc k) .mark)
-  pub last : SpanTo lows highs (rowAt table (2 * length lows)) (suc greatestShare)
-  pub all : rowAt table (2 * length lows) .lows ≡ rowAt table (2 * length lows) .highs
+  pub sums : (k : ℕ) → k ≤ lastRow table → Sums lows highs (rowAt table k)
+  pub spans : (k : ℕ) → k < lastRow table → SpanTo lows highs (rowAt table k) (rowAt table (suc k) .mark)
+  pub last : SpanTo lows highs (rowAt table (lastRow table)) (suc greatestShare)
+  pub all : rowAt table (lastRow table) .lows ≡ rowAt table (lastRow table) .highs
 
 -- no part of a share, or of one more than a share, is greater than this
 abbrev pub greatestPart : ℕ

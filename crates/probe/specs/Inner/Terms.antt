@@ -9,6 +9,7 @@ use Rattle.model.specs.Figures.{allows}
 use Rattle.model.specs.declared.Limit.{Limit}
 use Rattle.model.specs.declared.Limits.{Limits}
 use Rattle.probe.specs.declared.terms.Terms.{Terms}
+use Rattle.probe.specs.Inner.Rows.{lastRow}
 use Rattle.probe.specs.Inner.Sides.{aboveMean, belowMean, greatestHalf}
 use Rattle.probe.specs.Inner.Tables.{greatestPart}
 
@@ -21,9 +22,9 @@ pub record SquaresAllowed (limit : Limit) (n total squares : ℕ) : Type 0 where
   pub is : (q : ℕ) → q ≤ mostUnits * greatestPart → total * total ≤ n * q → leb q squares ≡ allows limit (n * q - total * total)
 
 -- the terms are those of a group: its members, the last row of its table, and the parts of its bounds on both sides of the mean
-pub record GroupTerms (lows highs : List ℕ) (terms : Terms) : Type 0 where
+pub record GroupTerms (lows highs table : List ℕ) (terms : Terms) : Type 0 where
   pub counted : terms .count ≡ length lows
-  pub ended : terms .last ≡ 2 * length lows
+  pub ended : terms .last ≡ lastRow table
   pub lowsAbove : terms .above ≡ sumOf (aboveMean (terms .count) (terms .total)) lows
   pub highsBelow : terms .below ≡ sumOf (belowMean (terms .count) (terms .total)) highs
 
@@ -33,7 +34,7 @@ pub record LimitTerms (limits : Limits) (terms : Terms) : Type 0 where
   pub squares : SquaresAllowed (limits .spread) (terms .count) (terms .total) (terms .squares)
 
 -- the terms of a group with a total and limits
-pub record Termed (lows highs : List ℕ) (total : ℕ) (limits : Limits) (terms : Terms) : Type 0 where
+pub record Termed (lows highs table : List ℕ) (total : ℕ) (limits : Limits) (terms : Terms) : Type 0 where
   pub totals : terms .total ≡ total
-  pub group : GroupTerms lows highs terms
+  pub group : GroupTerms lows highs table terms
   pub allowed : LimitTerms limits terms

@@ -28,7 +28,7 @@ pub record Asked (lows highs : List ℕ) (low high v : ℕ) : Type 0 where
 pub record Lookable (lows highs table : List ℕ) (terms : Terms) (low high v : ℕ) : Type 0 where
   pub sound : SoundWithTotal lows highs (terms .total)
   pub held : Breakpoints lows highs table
-  pub summed : GroupTerms lows highs terms
+  pub summed : GroupTerms lows highs table terms
   pub asked : Asked lows highs low high v
   pub reach : InReach table (terms .last) low high v (terms .total)
 
@@ -36,7 +36,7 @@ pub record Lookable (lows highs table : List ℕ) (terms : Terms) (low high v : 
 pub record Triable (lows highs table : List ℕ) (total : ℕ) (limits : Limits) (terms : Terms) (low high v : ℕ) : Type 0 where
   pub sound : SoundWithTotal lows highs total
   pub held : Breakpoints lows highs table
-  pub termed : Termed lows highs total limits terms
+  pub termed : Termed lows highs table total limits terms
   pub asked : Asked lows highs low high v
   pub reach : InReach table (terms .last) low high v total
 

@@ -1,22 +1,25 @@
 -- Filling the table row after row. Assumes nothing.
 use Prim.Native.Nat.{ℕ, suc, _+_, _*_, _≤_, _<_}
 use mathlib.Core.List.{List}
-use mathlib.Core.Path.{_≡_}
+use mathlib.Core.Path.{_≡_, _∙_}
 use native.Mathlib.Decide.{ℕ-discrete}
 use native.Mathlib.Omega.{arith}
 use lib.ListN.{length}
 use Rattle.model.specs.Sound.{SoundRanges}
 use Rattle.probe.specs.declared.rows.Row.{Row}
-use Rattle.probe.specs.Inner.Rows.{rowAt, RowWritten}
+use Rattle.probe.specs.Inner.Rows.{rowAt, lastRow, RowWritten}
+use Rattle.probe.specs.Laws.Kept.{kept-ranges, kept-span}
+use Rattle.probe.specs.Laws.Rows.{last-row}
 use Rattle.probe.specs.Laws.Spans.{span}
+use Rattle.probe.specs.Laws.Steps.{bounds-few}
 use Rattle.probe.specs.Laws.Walks.{parted-none, parted-all}
 use Rattle.probe.specs.Inner.Tables.{Sums, SpanTo, Breakpoints}
 use Rattle.probe.specs.Inner.Steps.{Risen, RowReached, NextRow, Begun}
 
 -- the rows up to k are filled
 pub record RowsTo (lows highs starts stops : List ℕ) (k : ℕ) (table : List ℕ) : Type 0 where
-  pub room : 5 * (2 * length lows) + 5 ≤ length table
-  pub few : k ≤ 2 * length lows
+  pub room : length table ≡ 5 * (2 * length starts) + 5
+  pub few : k ≤ 2 * length starts
   pub first : rowAt table 0 .mark ≡ 0
   pub sums : (j : ℕ) → j ≤ k → Sums lows highs (rowAt table j)
   pub spans : (j : ℕ) → j < k → SpanTo lows highs (rowAt table j) (rowAt table (suc j) .mark)
@@ -25,7 +28,7 @@ pub record RowsTo (lows highs starts stops : List ℕ) (k : ℕ) (table : List �
 
 module _ {lows highs starts stops : List ℕ} where
   -- the first row
-  pub filled-first : {row : Row} {before table : List ℕ} → 5 * (2 * length lows) + 5 ≤ length before
+  pub filled-first : {row : Row} {before table : List ℕ} → length before ≡ 5 * (2 * length starts) + 5
       → Begun lows highs row → RowWritten 0 row before table → RowsTo lows highs starts stops 0 table
   filled-first {row} {before} {table} room begun put = record {
     room = rw (put .same) room;
@@ -42,7 +45,7 @@ module _ {lows highs starts stops : List ℕ} where
   }
 
   -- one row more
-  pub rows-next : {k : ℕ} {row : Row} {before table : List ℕ} → RowsTo lows highs starts stops k before → k < 2 * length lows
+  pub rows-next : {k : ℕ} {row : Row} {before table : List ℕ} → RowsTo lows highs starts stops k before → k < 2 * length starts
       → NextRow lows highs starts stops (rowAt before k) row → RowWritten (suc k) row before table
       → RowsTo lows highs starts stops (suc k) table
   rows-next {k} {row} {before} {table} filled more stepped put =
@@ -65,21 +68,23 @@ module _ {lows highs starts stops : List ℕ} where
 
   -- all rows: every bound is passed
   pub rows-all : {k : ℕ} {table : List ℕ} → SoundRanges lows highs → Risen lows highs starts stops
-      → RowsTo lows highs starts stops k table → 2 * length lows ≤ k → Breakpoints lows highs table
+      → RowsTo lows highs starts stops k table → 2 * length starts ≤ k → Breakpoints lows highs table
   rows-all {k} {table} sound risen filled past =
-      let full : 2 * length lows ≡ k = omega (arith, filled .few) in
+      let bounds = bounds-few sound risen in
+      let full : lastRow table ≡ k = last-row table (2 * length starts) (filled .room) ∙ omega (arith, filled .few) in
       let end : Row = rowAt table k in
-      let all-lows : end .lows ≡ length starts =
-      omega (arith, filled .counted, filled .walk .sums, risen .startsFrom .same) in
-      let all-highs : end .highs ≡ length stops =
-      omega (arith, filled .counted, filled .walk .sums, risen .stopsFrom .same, sound .paired) in
+      let few-lows = filled .walk .partedLows .few in
+      let few-highs = filled .walk .partedHighs .few in
+      let all-lows : end .lows ≡ length starts = omega (arith, filled .counted, bounds .1) in
+      let all-highs : end .highs ≡ length stops = omega (arith, filled .counted, bounds .1) in
       record {
-        room = filled .room;
+        room = omega (arith, filled .room, filled .few);
+        few = omega (arith, filled .few, bounds .0);
         first = filled .first;
         sums = λ j h. filled .sums j (omega arith);
         spans = λ j h. filled .spans j (omega arith);
-        last = rw full (span (sound .ranges) (risen .startsFrom .rearranged) (risen .stopsFrom .rearranged)
+        last = rw full (kept-span (sound .ranges) (risen .kept) (span (kept-ranges (sound .ranges) (risen .kept)) (risen .startsFrom .rearranged) (risen .stopsFrom .rearranged)
             (omega (arith, filled .walk .sums .share))
-            (parted-all (filled .walk .partedLows) all-lows) (parted-all (filled .walk .partedHighs) all-highs));
-        all = rw full (omega (arith, sound .paired, risen .startsFrom .same, risen .stopsFrom .same));
+            (parted-all (filled .walk .partedLows) all-lows) (parted-all (filled .walk .partedHighs) all-highs)));
+        all = rw full (omega (arith, bounds .1));
       }

@@ -31,7 +31,7 @@ pinned {lows} {highs} ranges i v below share = record {
   highest = ranges-at ranges i below .1;
   value = share;
   sums = λ f w. pinned-sum f ranges i v w below;
-  clear = λ span. (span .lowsClear i below, span .highsClear i (omega (arith, ranges-length ranges)));
+  clear = λ span. span .clear i below;
 }
 
 -- the group itself, with nothing pinned
@@ -43,17 +43,17 @@ unpinned ranges = record {
   highest = omega arith;
   value = omega arith;
   sums = λ f w. let at : clamp 0 0 w ≡ 0 = omega arith in rw at;
-  clear = λ span. (λ past. absurd (omega arith), λ past. absurd (omega arith));
+  clear = λ span wide. absurd (omega arith);
 }
 
 -- a member's own part moves with the level where it grows at m, and stays elsewhere
-own-sum : (f : ℕ → ℕ) (l h m w v : ℕ) → l ≤ h → (m < l → w ≤ l) → (m < h → w ≤ h) → m ≤ v → v ≤ w
+own-sum : (f : ℕ → ℕ) (l h m w v : ℕ) → l ≤ h → (l < h → (m < l → w ≤ l) × (m < h → w ≤ h)) → m ≤ v → v ≤ w
     → f (clamp l h v) + growth l h m * f m ≡ f (clamp l h m) + growth l h m * f v
-own-sum f l h m w v p low high from upTo =
+own-sum f l h m w v p clear from upTo =
     elim (decLe l m) [
       | yes a ↦ elim (decLt m h) [
         | yes b ↦
-            let past : w ≤ h = high b in
+            let past : w ≤ h = clear (omega arith) .1 b in
             let at : clamp l h v ≡ v = omega arith in
             let was : clamp l h m ≡ m = omega arith in
             rw (le-leb l m a, lt-ltb m h b, at, was) (omega arith)
@@ -62,8 +62,11 @@ own-sum f l h m w v p low high from upTo =
             rw (le-leb l m a, le-ltb m h (omega arith), at) (omega arith)
       ]
       | no a ↦
-          let past : w ≤ l = low (omega arith) in
-          let at : clamp l h v ≡ clamp l h m = omega arith in
+          let at : clamp l h v ≡ clamp l h m =
+          elim (decLt l h) [
+            | yes wide ↦ let past : w ≤ l = clear wide .0 (omega arith) in omega arith
+            | no single ↦ omega arith
+          ] in
           rw (lt-leb l m (omega arith), at) (omega arith)
     ]
 
@@ -78,7 +81,7 @@ pinned-span {low = low} {high = high} {m = m} {w = w} pin span f x from upTo =
       pin .sums f x,
       pin .sums f m,
       span .sums f x from upTo,
-      own-sum f low high m w x (pin .ordered) (pin .clear span .0) (pin .clear span .1) from upTo,
+      own-sum f low high m w x (pin .ordered) (pin .clear span) from upTo,
     )
 
 -- at a mark whose T is the total, nothing is left over

@@ -10,7 +10,7 @@ use Rattle.model.specs.Levels.{clamp, totalAt, growth}
 use Rattle.model.specs.Laws.Lists.{sum-sumOf}
 use Rattle.probe.specs.declared.rows.Row.{Row}
 use Rattle.probe.specs.declared.pinned.Reach.{Reach}
-use Rattle.probe.specs.Inner.Rows.{rowAt}
+use Rattle.probe.specs.Inner.Rows.{rowAt, lastRow}
 use Rattle.probe.specs.Inner.Spans.{Span}
 use Rattle.probe.specs.Inner.Tables.{SoundWithTotal, Breakpoints, itself}
 use Rattle.probe.specs.Laws.Tables.{small-itself, clamped-small}
@@ -21,7 +21,7 @@ use Rattle.probe.specs.Inner.Probes.{pinnedTotal, Pinnable, Probeable, L
 module _ {lows highs table lows′ highs′ : List ℕ} {total low high v : ℕ} (sound : SoundWithTotal lows highs total) (held : Breakpoints lows highs table)
     (pin : Pin lows highs low high v lows′ highs′) where
   -- the pinned group's T at a row's level is what is computed from the row
-  module _ (k : ℕ) (upTo : k ≤ 2 * length lows) where
+  module _ (k : ℕ) (upTo : k ≤ lastRow table) where
     with-own : totalAt lows′ highs′ (rowAt table k .mark) + clamp low high (rowAt table k .mark) ≡ rowAt table k .total + v
     unfolding totalAt
     with-own = rw (sum-sumOf, held .sums k upTo .totals) (pin .sums itself (rowAt table k .mark))
@@ -37,10 +37,10 @@ module _ {lows highs table lows′ highs′ : List ℕ} {total low high v : ℕ}
       under = omega (arith, with-own);
     }
 
-  pub probeable : Probeable table (2 * length lows) low high v
+  pub probeable : Probeable table (lastRow table) low high v
   probeable = record { few = omega (arith, sound .few); room = held .room; rows = pinnable }
 
-  module _ {k : ℕ} (found : LastWithin table (2 * length lows) low high v total k) (enough : total ≤ pinnedTotal (rowAt table (2 * length lows)) low high v) where
+  module _ {k : ℕ} (found : LastWithin table (lastRow table) low high v total k) (enough : total ≤ pinnedTotal (rowAt table (lastRow table)) low high v) where
     abbrev row : Row
     row = rowAt table k
 
@@ -48,9 +48,9 @@ module _ {lows highs table lows′ highs′ : List ℕ} {total low high v : ℕ}
     left = total - pinnedTotal row low high v
 
     -- where copies are left over, a row follows
-    follows : 0 < left → k < 2 * length lows
+    follows : 0 < left → k < lastRow table
     follows some =
-        elim (ℕ-discrete k (2 * length lows)) [
+        elim (ℕ-discrete k (lastRow table)) [
           | yes e ↦ absurd (omega (arith, rw (← e) at enough))
           | no e ↦ omega (arith, found .upTo)
         ]

@@ -10,7 +10,7 @@ use Rattle.model.specs.Plans.{taken}
 use Rattle.model.specs.Laws.Tests.{clash}
 use Rattle.model.specs.declared.Limits.{Limits}
 use Rattle.probe.specs.declared.terms.Terms.{Terms}
-use Rattle.probe.specs.Inner.Rows.{rowAt}
+use Rattle.probe.specs.Inner.Rows.{rowAt, lastRow}
 use Rattle.probe.specs.Inner.Tables.{SoundWithTotal, Breakpoints}
 use Rattle.probe.specs.Laws.Pinned.{pinned, unpinned}
 use Rattle.probe.specs.Inner.Probes.{pinnedTotal, InReach}
@@ -27,14 +27,14 @@ reach-between from upTo m above below = record { least = omega (arith, upTo .lea
 
 module _ {lows highs table : List ℕ} {total : ℕ} (sound : SoundWithTotal lows highs total) (held : Breakpoints lows highs table) where
   -- a group that has shares is in reach itself
-  shares-reach : sum lows ≤ total → total ≤ sum highs → InReach table (2 * length lows) 0 0 0 total
+  shares-reach : sum lows ≤ total → total ≤ sum highs → InReach table (lastRow table) 0 0 0 total
   shares-reach least greatest = record {
     least = rw (← least-total sound (unpinned (sound .ranges)) held) least;
     greatest = rw (← greatest-total sound (unpinned (sound .ranges)) held) greatest;
   }
 
   -- so that it can be looked up
-  pub shares-lookable : sum lows ≤ total → total ≤ sum highs → {limits : Limits} {terms : Terms} → Termed lows highs total limits terms
+  pub shares-lookable : sum lows ≤ total → total ≤ sum highs → {limits : Limits} {terms : Terms} → Termed lows highs table total limits terms
       → Lookable lows highs table terms 0 0 0
   shares-lookable least greatest termed = lookable (record {
     sound = sound;
@@ -46,7 +46,7 @@ module _ {lows highs table : List ℕ} {total : ℕ} (sound : SoundWithTotal low
 
   module _ (limits : Limits) (i : ℕ) (here : i < length lows) (w : ℕ) (share : w ≤ greatestShare) where
     -- a value too small for the others is not taken
-    pub short-fails : pinnedTotal (rowAt table (2 * length lows)) (getD lows i 0) (getD highs i 0) w < total → taken lows highs total limits i w ≡ false
+    pub short-fails : pinnedTotal (rowAt table (lastRow table)) (getD lows i 0) (getD highs i 0) w < total → taken lows highs total limits i w ≡ false
     short-fails = too-little sound (pinned (sound .ranges) i w here share) held limits
 
     -- nor one too great
@@ -54,7 +54,7 @@ module _ {lows highs table : List ℕ} {total : ℕ} (sound : SoundWithTotal low
     long-fails = too-much sound (pinned (sound .ranges) i w here share) held limits
 
     -- so that a value taken is in reach
-    pub taken-reach : taken lows highs total limits i w ≡ true → InReach table (2 * length lows) (getD lows i 0) (getD highs i 0) w total
+    pub taken-reach : taken lows highs total limits i w ≡ true → InReach table (lastRow table) (getD lows i 0) (getD highs i 0) w total
     taken-reach passes = record {
       least = by-contra _ _ (λ long. clash passes (long-fails (omega arith)));
       greatest = by-contra _ _ (λ short. clash passes (short-fails (omega arith)));

@@ -1,14 +1,21 @@
 -- The rows of a breakpoint table in a list of numbers. Assumes nothing.
-use Prim.Native.Nat.{ℕ, zero, suc, _+_, _*_, _≤_, _<_}
+use Prim.Native.Nat.{ℕ, zero, suc, _+_, _-_, _*_, _/_, _%_, _≤_, _<_}
 use mathlib.Core.List.{List, [], _∷_}
 use mathlib.Core.Logic.{_≢_}
 use mathlib.Core.Path.{_≡_, refl, _∙_}
-use native.Mathlib.Nat.{le-of-suc-le-suc}
+use native.Mathlib.Nat.{le-of-suc-le-suc, div-add-mod, mod-lt}
 use native.Mathlib.Omega.{arith}
 use lib.ListN.{length, getD, set, length-set}
 use lib.Seq.{getD-set-same, getD-set-other, sets, length-sets}
 use Rattle.probe.specs.declared.rows.Row.{Row}
-use Rattle.probe.specs.Inner.Rows.{rowAt, RowWritten}
+use Rattle.probe.specs.Inner.Rows.{rowAt, lastRow, RowWritten}
+
+-- a table with room for just so many rows after the first
+pub last-row : (table : List ℕ) (last : ℕ) → length table ≡ 5 * last + 5 → lastRow table ≡ last
+unfolding lastRow
+last-row table last size =
+    let below : length table % 5 < 5 = mod-lt (length table) (omega arith) in
+    omega (arith, div-add-mod (length table) 5)
 
 -- numbers written from p on leave those at other places
 sets-other : (vs xs : List ℕ) (p q : ℕ) → ((i : ℕ) → i < length vs → q ≢ p + i) → getD (sets xs p vs) q 0 ≡ getD xs q 0

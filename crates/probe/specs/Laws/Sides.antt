@@ -72,7 +72,7 @@ half parts value more told adds same held = omega arith
 fits : {own own′ sides sides′ : ℕ} (parts value : ℕ) → parts + own′ ≡ sides′ + value → own′ ≡ own → sides ≡ sides′ → own ≤ sides + value
 fits parts value adds same held = omega arith
 
-module _ {lows highs lows′ highs′ : List ℕ} {mark : ℕ} {terms : Terms} (sound : SoundWithTotal lows highs (terms .total)) (held : GroupTerms lows highs terms)
+module _ {lows highs table lows′ highs′ : List ℕ} {mark : ℕ} {terms : Terms} (sound : SoundWithTotal lows highs (terms .total)) (held : GroupTerms lows highs table terms)
     (trial : Trial) (pin : Pin lows highs (trial .low) (trial .high) (trial .value) lows′ highs′)
     (reach : Reach) (reached : Reached lows′ highs′ (terms .total) mark (reach .growing) (reach .level) (reach .over)) where
   abbrev n : ℕ

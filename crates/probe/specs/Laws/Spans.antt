@@ -6,6 +6,7 @@ use native.Mathlib.Decide.{decLt}
 use native.Mathlib.Omega.{arith}
 use lib.ListN.{length, getD}
 use Rattle.model.specs.Shares.{Ranges, sumOf}
+use Rattle.model.specs.Laws.Lists.{ranges-length}
 use Rattle.model.specs.Laws.Spread.{sumOf-bound}
 use Rattle.probe.specs.Laws.Sums.{clamped-sum, part-at-most}
 use Rattle.probe.specs.Inner.Spans.{Rearranged, Parted, Span}
@@ -75,6 +76,5 @@ span {m = m} {w = w} {a = a} {b = b} ranges sameLows sameHighs rises partedLows 
     rearranged-sum sameLows partedLows rises f v low high,
     rearranged-sum sameHighs partedHighs rises f v low high,
   );
-  lowsClear = rearranged-clear sameLows partedLows;
-  highsClear = rearranged-clear sameHighs partedHighs;
+  clear = λ i below _. (rearranged-clear sameLows partedLows i below, rearranged-clear sameHighs partedHighs i (omega (arith, ranges-length ranges)));
 }

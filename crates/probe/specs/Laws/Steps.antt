@@ -1,15 +1,17 @@
 -- From one row of the table to the next, on the way up the rising bounds. Assumes nothing.
 use Prim.Native.Nat.{ℕ, _+_, _≤_, _<_}
 use mathlib.Core.List.{List}
+use mathlib.Core.Path.{_≡_}
 use native.Mathlib.Nat.{le-refl}
 use native.Mathlib.Numerals.{add-one}
 use native.Mathlib.Omega.{arith}
 use lib.ListN.{length, getD}
-use Rattle.model.specs.Shares.{greatestShare}
+use Rattle.model.specs.Shares.{Ranges, greatestShare}
 use Rattle.model.specs.Sound.{SoundRanges}
 use Rattle.model.specs.Laws.Lists.{ranges-at}
 use Rattle.probe.specs.declared.rows.Row.{Row}
 use Rattle.probe.specs.Inner.Orders.{RisingBy}
+use Rattle.probe.specs.Laws.Kept.{kept-ranges, kept-few, kept-span}
 use Rattle.probe.specs.Laws.Spans.{span}
 use Rattle.probe.specs.Laws.Walks.{rearranged-small, next-up, passes-none, passed-none, passed-one}
 use Rattle.probe.specs.Inner.Tables.{Sums, SpanTo, RowMoved}
@@ -43,13 +45,20 @@ still-sums sums few-lows few-highs = record {
 }
 
 module _ {lows highs starts stops : List ℕ} (sound : SoundRanges lows highs) (risen : Risen lows highs starts stops) where
+  -- the kept members' ranges, and how many bounds they have
+  kept-in : Ranges (risen .keptLows) (risen .keptHighs)
+  kept-in = kept-ranges (sound .ranges) (risen .kept)
+
+  pub bounds-few : (length starts ≤ length lows) × (length stops ≡ length starts)
+  bounds-few = let few = kept-few (risen .kept) in (omega (arith, few .0, risen .startsFrom .same), omega (arith, few .1, risen .startsFrom .same, risen .stopsFrom .same))
+
   -- every bound is a share
   start-small : (i : ℕ) → i < length starts → getD starts i 0 ≤ greatestShare
-  start-small = rearranged-small greatestShare (risen .startsFrom .rearranged) (λ i below. omega (arith, ranges-at (sound .ranges) i below))
+  start-small = rearranged-small greatestShare (risen .startsFrom .rearranged) (λ i below. omega (arith, ranges-at kept-in i below))
 
   stop-small : (i : ℕ) → i < length stops → getD stops i 0 ≤ greatestShare
   stop-small = rearranged-small greatestShare (risen .stopsFrom .rearranged)
-      (λ i below. omega (arith, ranges-at (sound .ranges) i (omega (arith, sound .paired))))
+      (λ i below. omega (arith, ranges-at kept-in i (omega (arith, kept-few (risen .kept) .1))))
 
   starts-rise : RisingBy 1 (length starts) starts
   starts-rise = rw (risen .startsFrom .same) (risen .startsFrom .rising)
@@ -64,9 +73,9 @@ module _ {lows highs starts stops : List ℕ} (sound : SoundRanges lows highs) (
         → (row .highs < length stops → w ≤ getD stops (row .highs) 0)
         → SpanTo lows highs row w
     span-next w up below-low below-high =
-        span (sound .ranges) (risen .startsFrom .rearranged) (risen .stopsFrom .rearranged) up
+        kept-span (sound .ranges) (risen .kept) (span kept-in (risen .startsFrom .rearranged) (risen .stopsFrom .rearranged) up
         (passes-none starts-rise (walk .partedLows) below-low)
-        (passes-none stops-rise (walk .partedHighs) below-high)
+        (passes-none stops-rise (walk .partedHighs) below-high))
 
     module _ (first : (row .lows < length starts) × (row .highs < length stops → getD starts (row .lows) 0 ≤ getD stops (row .highs) 0)) where
       low-up : row .mark ≤ getD starts (row .lows) 0
@@ -82,7 +91,7 @@ module _ {lows highs starts stops : List ℕ} (sound : SoundRanges lows highs) (
       low-stepped m = record {
         span = rw (m .at) (low-next .0);
         walk = record {
-          sums = still-sums (m .sums) (omega (arith, m .sameLows, risen .startsFrom .same)) (m .sums .fewHighs);
+          sums = still-sums (m .sums) (omega (arith, m .sameLows, bounds-few .0)) (m .sums .fewHighs);
           partedLows = rw (m .at, m .sameLows, add-one) (passed-one starts-rise (walk .partedLows) (first .0));
           partedHighs = rw (m .at, m .sameHighs) (passed-none stops-rise (walk .partedHighs) low-up (first .1));
         };
@@ -103,7 +112,7 @@ module _ {lows highs starts stops : List ℕ} (sound : SoundRanges lows highs) (
       high-stepped m = record {
         span = rw (m .at) (high-next .0);
         walk = record {
-          sums = still-sums (m .sums) (m .sums .fewLows) (omega (arith, m .sameHighs, risen .stopsFrom .same, sound .paired));
+          sums = still-sums (m .sums) (m .sums .fewLows) (omega (arith, m .sameHighs, bounds-few));
           partedLows = rw (m .at, m .sameLows) (passed-none starts-rise (walk .partedLows) high-up (first .1));
           partedHighs = rw (m .at, m .sameHighs, add-one) (passed-one stops-rise (walk .partedHighs) (first .0));
         };

@@ -15,6 +15,7 @@ use Rattle.probe.specs.declared.probing.Levelled.{Levelled}
 use Rattle.probe.specs.declared.terms.Terms.{Terms}
 use Rattle.model.specs.declared.Limit.the-variants.{Any, AtMost}
 use Rattle.model.specs.declared.Limits.{Limits}
+use Rattle.probe.specs.Inner.Rows.{lastRow}
 use Rattle.probe.specs.Inner.Sides.{greatestHalf}
 use Rattle.probe.specs.Inner.Tables.{greatestPart}
 use Rattle.probe.specs.Inner.Terms.{HalfAllowed, SquaresAllowed, Termed}
@@ -62,10 +63,10 @@ squares-none total most r large = record { is = λ q small enough. le-leb q r (o
 
 module _ {lows highs table : List ℕ} {terms : Terms} {low high v : ℕ} (asked : Lookable lows highs table terms low high v) where
   -- the last row of the terms is that of the table
-  pub reach-last : InReach table (2 * length lows) low high v (terms .total)
+  pub reach-last : InReach table (lastRow table) low high v (terms .total)
   reach-last = rw (asked .summed .ended) at (asked .reach)
 
-  pub found-last : {k : ℕ} → LastWithin table (terms .last) low high v (terms .total) k → LastWithin table (2 * length lows) low high v (terms .total) k
+  pub found-last : {k : ℕ} → LastWithin table (terms .last) low high v (terms .total) k → LastWithin table (lastRow table) low high v (terms .total) k
   found-last found = rw (asked .summed .ended) at found
 
 -- what can be tried can be looked up
@@ -80,7 +81,7 @@ lookable asked = record {
 }
 
 -- what is found of the group itself, with the total and the limits that the terms are of
-module _ {lows highs table : List ℕ} {total : ℕ} {limits : Limits} {terms : Terms} {at : Levelled} (termed : Termed lows highs total limits terms)
+module _ {lows highs table : List ℕ} {total : ℕ} {limits : Limits} {terms : Terms} {at : Levelled} (termed : Termed lows highs table total limits terms)
     (on : LevelledOn lows highs table terms at) where
   pub level-reached : Reached lows highs total (on .mark) (on .moving) (at .level) (at .over)
   level-reached = rw (termed .totals) at (on .reached)

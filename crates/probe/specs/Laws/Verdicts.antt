@@ -3,6 +3,7 @@ use Prim.Native.Nat.{ℕ, _-_, _*_, _≤_, _<_}
 use mathlib.Core.Bool.{false}
 use mathlib.Core.List.{List}
 use mathlib.Core.Path.{_≡_, sym, ap, _∙_}
+use native.Mathlib.Decide.{decLe}
 use native.Mathlib.Omega.{arith, by-contra}
 use lib.Dec.{leb}
 use lib.ListN.{length}
@@ -21,7 +22,7 @@ use Rattle.model.specs.Laws.Tests.{right-fails}
 use Rattle.probe.specs.declared.probing.Pinned.{Pinned}
 use Rattle.probe.specs.declared.rows.Row.{Row}
 use Rattle.probe.specs.declared.terms.Terms.{Terms}
-use Rattle.probe.specs.Inner.Rows.{rowAt}
+use Rattle.probe.specs.Inner.Rows.{rowAt, lastRow}
 use Rattle.probe.specs.Inner.Tables.{SoundWithTotal, Breakpoints, greatestPart, itself, square}
 use Rattle.probe.specs.Laws.Tables.{Small, small-square}
 use Rattle.probe.specs.Inner.Pinned.{Pin, Reached}
@@ -40,6 +41,16 @@ topped-small {lows} {highs} ranges {f} small w r =
     let many = within-length inside in
     rw (many .0) (sumOf-bound f greatestPart (topped lows highs w r) (λ i h.
     small _ (omega (arith, within-at inside i h, ranges-at ranges i (omega arith)))))
+
+-- a member does not grow at its high or above, nor one with a single value at any level
+grown : {low high m : ℕ} → low ≤ high → (low < high → high ≤ m) → growth low high m ≡ 0
+grown {low} {high} {m} ordered past =
+    elim (decLe low m) [
+      | yes from ↦
+          let ends : high ≤ m = elim (decLe high low) [ yes single ↦ omega arith | no wide ↦ past (omega arith) ] in
+          rw (le-leb low m from, le-ltb m high ends)
+      | no before ↦ rw (lt-leb low m (omega arith))
+    ]
 
 -- T is the sum of the shares themselves
 total-itself : (lows highs : List ℕ) (w : ℕ) → totalAt lows highs w ≡ sumOf itself (clamped lows highs w)
@@ -71,17 +82,16 @@ module _ {lows highs lows′ highs′ : List ℕ} {total low high v : ℕ} (soun
     least-total =
         sym (pinned-total sound held pin 0 (omega arith) ∙ ap (totalAt lows′ highs′) (held .first) ∙ totalAt-least (pin .ranges))
 
-    pub greatest-total : sum highs′ ≡ pinnedTotal (rowAt table (2 * length lows)) low high v
+    pub greatest-total : sum highs′ ≡ pinnedTotal (rowAt table (lastRow table)) low high v
     greatest-total =
-        let end : Row = rowAt table (2 * length lows) in
-        let share : end .mark ≤ greatestShare = held .sums (2 * length lows) (omega arith) .share in
-        let ends : high ≤ end .mark = by-contra _ _ (λ past. omega (arith, pin .clear (held .last) .1 past, pin .highest)) in
-        let starts : low ≤ end .mark = omega (arith, pin .ordered) in
-        let none : growth low high (end .mark) ≡ 0 = rw (le-leb low (end .mark) starts, le-ltb (end .mark) high ends) in
+        let end : Row = rowAt table (lastRow table) in
+        let share : end .mark ≤ greatestShare = held .sums (lastRow table) (omega arith) .share in
+        let none : growth low high (end .mark) ≡ 0 =
+        grown (pin .ordered) (λ wide. by-contra _ _ (λ past. omega (arith, pin .clear (held .last) wide .1 past, pin .highest))) in
         let same = rw (held .all, none) at (pinned-span pin (held .last) itself greatestShare share (omega arith)) in
         omega (
           arith,
-          pinned-total sound held pin (2 * length lows) (omega arith),
+          pinned-total sound held pin (lastRow table) (omega arith),
           totalAt-greatest (pin .ranges),
           total-itself lows′ highs′ greatestShare,
           total-itself lows′ highs′ (end .mark),
@@ -92,13 +102,13 @@ module _ {lows highs lows′ highs′ : List ℕ} {total low high v : ℕ} (soun
     unfolding hasPlan
     too-much limits more = rw (lt-leb (sum lows′) total (rw least-total more))
 
-    pub too-little : (limits : Limits) → pinnedTotal (rowAt table (2 * length lows)) low high v < total → hasPlan lows′ highs′ total limits ≡ false
+    pub too-little : (limits : Limits) → pinnedTotal (rowAt table (lastRow table)) low high v < total → hasPlan lows′ highs′ total limits ≡ false
     unfolding hasPlan
     too-little limits less = rw (right-fails (leb (sum lows′) total) (lt-leb total (sum highs′) (rw greatest-total less)))
 
     -- where they do, the figures of the levelled shares decide
     pub decided : (limits : Limits) → pinnedTotal (rowAt table 0) low high v ≤ total
-        → total ≤ pinnedTotal (rowAt table (2 * length lows)) low high v
+        → total ≤ pinnedTotal (rowAt table (lastRow table)) low high v
         → {figures : Figures} → figures ≡ figuresOf (length lows′) total (levelled lows′ highs′ total)
         → met limits figures ≡ hasPlan lows′ highs′ total limits
     unfolding hasPlan

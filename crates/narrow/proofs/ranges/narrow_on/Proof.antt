@@ -43,7 +43,9 @@ module _ (s : tie.Start Inv-loop μ-loop) where
   many-highs = narrowedHighs-length _ _ _ _
 
 terms-of-requires : tie.Need-terms-of-requires Inv-loop μ-loop
-terms-of-requires c κs = c .before .before .before .before .before .pre .1 .0 .sound
+terms-of-requires c κs =
+    let tabled = c .before .before .before .before .before .pre .1 .0 in
+    (tabled .sound, omega (arith, tabled .held .room))
 
 level-on-requires : tie.Need-level-on-requires Inv-loop μ-loop
 level-on-requires c κs =
@@ -55,7 +57,7 @@ module _ (c : tie.After-level-on Inv-loop μ-loop) where
   abbrev start : tie.Start Inv-loop μ-loop
   start = c .before .before .before .before .before .before .before
 
-  termed : Termed (start .args .lows .now) (start .args .highs .now) (start .args .question .total) (start .args .question .limits) (c .before .terms-of .result)
+  termed : Termed (start .args .lows .now) (start .args .highs .now) (start .args .table .now) (start .args .question .total) (start .args .question .limits) (c .before .terms-of .result)
   termed = c .before .terms-of .ensures
 
   is-planned : c .level-on .result .planned ≡ hasPlan (start .args .lows .now) (start .args .highs .now) (start .args .question .total) (start .args .question .limits)

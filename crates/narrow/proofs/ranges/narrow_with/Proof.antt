@@ -4,6 +4,7 @@ use borrow.Author.Tests.{not-true, not-false}
 use native.Mathlib.Omega.{arith}
 use mathlib.Core.Path.{_≡_, refl, sym, ap, _∙_}
 use lib.ListN.{length}
+use lib.Seq.{length-take-le}
 use Rattle.model.specs.Plans.{turnOf, narrowedLows, narrowedHighs}
 use Rattle.model.specs.Laws.Narrowing.{narrowedLows-length, narrowedHighs-length}
 use Rattle.model.specs.Sound.{HasShares}
@@ -43,14 +44,20 @@ build-requires : tie.Need-build-requires
 build-requires c κs =
     let e = c .before .before .before .before .before in
     let room = start e .pre .1 in
-    (start e .pre .0, (room .sizeStarts, (room .sizeStops ∙ sym (start e .pre .0 .paired), room .sizeTable)))
+    (start e .pre .0, (room .sizeStarts, (room .sizeStops, room .sizeTable)))
+
+slice-reshare-prefix-narrow-on : tie.Need-slice-reshare-prefix-narrow-on
+slice-reshare-prefix-narrow-on c = c .before .before .before .before .before .before .before .before .build .ensures .0
+
+slice-aggregate-narrow-on : tie.Need-slice-aggregate-narrow-on
+slice-aggregate-narrow-on c = sym (length-take-le _ _ (c .before .before .before .before .before .before .before .before .before .build .ensures .0))
 
 narrow-on-requires : tie.Need-narrow-on-requires
 narrow-on-requires c κs =
     let built = c .before .before .before .before .before .before .before .before .before .before .before in
     let e = built .before .before .before .before .before .before in
     let room = start e .pre .1 in
-    (shared e, (record { sound = probe-sound (shared e); held = built .build .ensures }, (omega (arith, room .sizeStarts), omega (arith, room .sizeStops))))
+    (shared e, (record { sound = probe-sound (shared e); held = built .build .ensures .1 }, (omega (arith, room .sizeStarts), omega (arith, room .sizeStops))))
 
 enum-told : tie.Need-enum-told
 enum-told c = search needs
@@ -138,6 +145,8 @@ narrow-with-spec =
     same-length-2
     returns
     build-requires
+    slice-reshare-prefix-narrow-on
+    slice-aggregate-narrow-on
     narrow-on-requires
     enum-told
     enum-told-2

@@ -6,6 +6,7 @@ use native.Mathlib.Numerals.{add-one}
 use Prim.Native.Nat.{_-_, _*_}
 use lib.ListN.{length}
 use Rattle.probe.specs.Laws.Fills.{RowsTo, filled-first, rows-next, rows-all}
+use Rattle.probe.specs.Laws.Steps.{bounds-few}
 use Rattle.probe.proofs.build.fill.Statement.{statement}
 use Rattle.probe.proofs.build.fill.Tie as tie
 
@@ -13,7 +14,7 @@ abbrev Inv-loop : tie.InvT-loop
 Inv-loop lows highs starts stops table₀ last k₀ table k = RowsTo lows highs starts stops k table × (length table ≡ length table₀)
 
 abbrev μ-loop : tie.MeasureT-loop
-μ-loop lows highs starts stops table₀ last k₀ table k = 2 * length lows - k
+μ-loop lows highs starts stops table₀ last k₀ table k = 2 * length starts - k
 
 -- the function's start, seen from the loop
 abbrev start : tie.At-loop Inv-loop μ-loop → tie.Start Inv-loop μ-loop
@@ -43,7 +44,9 @@ next-row-requires c κs =
     (start t .pre .0, (start t .pre .1 .0, rw (c .read-row .ensures) (inv .walk, omega (arith, inv .counted))))
 
 add-k : tie.Need-add-k Inv-loop μ-loop
-add-k c = omega (arith, start (c .before .before .before .before) .pre .0 .few)
+add-k c =
+    let s = start (c .before .before .before .before) in
+    omega (arith, s .pre .0 .few, bounds-few (s .pre .0) (s .pre .1 .0))
 
 write-row-requires-2 : tie.Need-write-row-requires-2 Inv-loop μ-loop
 write-row-requires-2 c κs = search needs

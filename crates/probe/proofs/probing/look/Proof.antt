@@ -8,7 +8,7 @@ use Rattle.probe.specs.declared.rows.Row.{Row}
 use Rattle.probe.specs.declared.pinned.Reach.{Reach}
 use Rattle.probe.specs.declared.pinned.Trial.{Trial}
 use Rattle.probe.specs.declared.terms.Terms.{Terms}
-use Rattle.probe.specs.Inner.Rows.{rowAt}
+use Rattle.probe.specs.Inner.Rows.{rowAt, lastRow}
 use Rattle.probe.specs.Inner.Tables.{Sums}
 use Rattle.probe.specs.Inner.Pinned.{Pin, Reached}
 use Rattle.probe.specs.Inner.Probes.{pinnedTotal, LastWithin, Divided}
@@ -51,7 +51,7 @@ module _ (c : tie.After-last-within) where
   asked : Lookable lows highs (start .args .table .now) terms (trial .low) (trial .high) (trial .value)
   asked = start .pre
 
-  found : LastWithin (start .args .table .now) (2 * length lows) (trial .low) (trial .high) (trial .value) (terms .total) (c .last-within .result)
+  found : LastWithin (start .args .table .now) (lastRow (start .args .table .now)) (trial .low) (trial .high) (trial .value) (terms .total) (c .last-within .result)
   found = found-last asked (c .last-within .ensures)
 
   sums : Sums lows highs row

@@ -1,7 +1,7 @@
 -- Whichever bound comes first, none lies before it, and one more is passed. Assumes nothing.
 use borrow.Author.Needs.{needs}
 use native.Mathlib.Omega.{arith}
-use Rattle.probe.specs.Laws.Steps.{low-next, low-stepped, high-next, high-stepped}
+use Rattle.probe.specs.Laws.Steps.{bounds-few, low-next, low-stepped, high-next, high-stepped}
 use Rattle.probe.proofs.table.next_row.Statement.{statement}
 use Rattle.probe.proofs.table.next_row.Tie as tie
 
@@ -10,7 +10,9 @@ abbrev start : tie.After-low-first → tie.Start
 start c = c .before .before .before .before .before
 
 low-first-requires : tie.Need-low-first-requires
-low-first-requires c κs = search needs
+low-first-requires c κs =
+    let s = c .before .before .before .before in
+    (s .pre .1 .1 .0 .partedLows .few, (s .pre .1 .1 .0 .partedHighs .few, omega (arith, s .pre .1 .1 .1, bounds-few (s .pre .0) (s .pre .1 .0) .1)))
 
 mul-row-at : tie.Need-mul-row-at
 mul-row-at c = search needs
