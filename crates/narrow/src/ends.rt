@@ -1,4 +1,10 @@
 // The ends of a member's range: how far from its share plans give it values.
+use crate::known::Bracket;
+use crate::known::Shared;
+use crate::known::Way;
+use crate::known::edge_known;
+use crate::known::end_known;
+use crate::known::noted;
 use model::Question;
 use model::levels::clamp;
 use model::numbers::apart;
@@ -10,19 +16,27 @@ ghost use Prim.Native.Nat.{_<_};
 ghost use Rattle.model.specs.Figures.{apart};
 ghost use Rattle.model.specs.Plans.{taken};
 ghost use Rattle.probe.specs.Inner.Terms.{Termed};
-ghost use Rattle.narrow.specs.Inner.Edges.{Amid, Edge, Reaches, Approach, Search};
+ghost use Rattle.narrow.specs.Inner.Edges.{Amid, Edge, Approach, Search};
+ghost use Rattle.narrow.specs.Inner.Known.{SharedHolds, RowOf, EdgeFound, EndFound};
 
 // How many of Newton's steps an end gets before bisection takes over, which bounds the search.
 const NEWTON_STEPS: u64 = 8;
 
+// An end of a member's narrowed range, and what is known after it was found.
+pub(crate) struct End {
+    pub(crate) value: u64,
+    pub(crate) shared: Shared,
+}
+
 // Two values of a member, of which no plan gives it the outer one and some plan the inner one; how far inward of the outer
-// one to look next, and a row to look at first.
+// one to look next, the row found for the outer one, and what is known of others.
 struct Gap {
     member: usize,
     outer: u64,
     inner: u64,
     inward: u64,
     row: usize,
+    shared: Shared,
 }
 
 // How far inward to go next between two values that are so far apart: as far as said while tries are left, then halfway.
@@ -56,7 +70,7 @@ fn fewer(tries: u64) -> u64 {
     tries - 1
 }
 
-// The value nearest to the outer one of a gap that some plan gives the member.
+// The value nearest to the outer one of a gap that some plan gives the member, and the one next to it.
 fn edge(
     lows: &[u64],
     highs: &[u64],
@@ -64,21 +78,27 @@ fn edge(
     question: Question,
     terms: Terms,
     gap: Gap,
-) -> u64
+) -> Bracket
     requires { ⌜ Search (now lows) (now highs) (now table) (question .total) (question .limits) (gap .member) (gap .outer) (gap .inner) ⌝ }
+    requires { ⌜ RowOf (now lows) (now highs) (now table) (question .total) (gap .member) (gap .outer) (gap .row) ⌝ }
     requires { ⌜ Termed (now lows) (now highs) (now table) (question .total) (question .limits) terms ⌝ }
-    ensures { λ r. ⌜ Edge (taken (now (lows .entry)) (now (highs .entry)) (question .total) (question .limits) (gap .member)) (gap .outer) (gap .inner) r ⌝ }
+    ensures { λ r. ⌜ EdgeFound (now (lows .entry)) (now (highs .entry)) (now (table .entry)) (question .total) (question .limits) (gap .member) (gap .outer) (gap .inner) r ⌝ }
 {
     let member = gap.member;
     let low = lows[member];
     let high = highs[member];
-    let mut outer = gap.outer;
-    let mut inner = gap.inner;
     let mut inward = gap.inward;
     let mut row = gap.row;
     let mut tries = NEWTON_STEPS;
-    while 1 < apart(outer, inner) {
-        let value = next_value(outer, inner, inward, tries);
+    let mut found = Bracket {
+        inner: gap.inner,
+        outer: gap.outer,
+        near: row,
+        far: row,
+        tried: false,
+    };
+    while 1 < apart(found.outer, found.inner) {
+        let value = next_value(found.outer, found.inner, inward, tries);
         let trial = Trial {
             low,
             high,
@@ -90,43 +110,64 @@ fn edge(
         row = tried.row;
         tries = fewer(tries);
         if tried.taken {
-            inner = value;
+            found.inner = value;
+            found.near = row;
+            found.tried = true;
         } else {
-            outer = value;
+            found.outer = value;
+            found.far = row;
         }
     }
-    inner
+    found
 }
 
-// A share that some plan gives a member, an end of the member's range, and a row to look at first.
-pub(crate) struct Way {
-    pub(crate) member: usize,
-    pub(crate) share: u64,
-    pub(crate) end: u64,
-    pub(crate) row: usize,
+// The same, with what is known afterwards.
+fn edge_noted(
+    lows: &[u64],
+    highs: &[u64],
+    table: &[u64],
+    question: Question,
+    terms: Terms,
+    gap: Gap,
+) -> End
+    requires { ⌜ Search (now lows) (now highs) (now table) (question .total) (question .limits) (gap .member) (gap .outer) (gap .inner) ⌝ }
+    requires { ⌜ RowOf (now lows) (now highs) (now table) (question .total) (gap .member) (gap .outer) (gap .row) ⌝ }
+    requires { ⌜ Termed (now lows) (now highs) (now table) (question .total) (question .limits) terms ⌝ }
+    requires { ⌜ SharedHolds (now lows) (now highs) (question .total) (question .limits) (gap .shared) ⌝ }
+    ensures { λ r. ⌜ Edge (taken (now (lows .entry)) (now (highs .entry)) (question .total) (question .limits) (gap .member)) (gap .outer) (gap .inner) (r .value) ⌝ }
+    ensures { λ r. ⌜ SharedHolds (now (lows .entry)) (now (highs .entry)) (question .total) (question .limits) (r .shared) ⌝ }
+{
+    let found = edge(lows, highs, table, question, terms, gap);
+    let member = gap.member;
+    let low = lows[member];
+    let high = highs[member];
+    let was = gap.shared;
+    let shared = noted(table, terms.last, low, high, was, found);
+    End {
+        value: found.inner,
+        shared,
+    }
 }
 
-// How far from the share to the end plans give the member values.
-pub(crate) fn farthest_taken(
+// How far from the share to the end plans give the member values, by trials.
+fn search(
     lows: &[u64],
     highs: &[u64],
     table: &[u64],
     question: Question,
     terms: Terms,
     way: Way,
-) -> u64
+) -> End
     requires { ⌜ Approach (now lows) (now highs) (now table) (question .total) (question .limits) (way .member) (way .end) (way .share) ⌝ }
     requires { ⌜ Termed (now lows) (now highs) (now table) (question .total) (question .limits) terms ⌝ }
-    ensures { λ r. ⌜ Reaches (taken (now (lows .entry)) (now (highs .entry)) (question .total) (question .limits) (way .member)) (way .end) (way .share) r ⌝ }
+    requires { ⌜ SharedHolds (now lows) (now highs) (question .total) (question .limits) (way .shared) ⌝ }
+    ensures { λ r. ⌜ EndFound (now (lows .entry)) (now (highs .entry)) (question .total) (question .limits) (way .member) (way .end) (way .share) r ⌝ }
 {
-    // Some plan gives the share.
-    if way.end == way.share {
-        return way.end;
-    }
     let member = way.member;
     let low = lows[member];
     let high = highs[member];
-    let value = into_reach(table, terms.last, low, high, way.end, question.total);
+    let last = terms.last;
+    let value = into_reach(table, last, low, high, way.end, question.total);
     let row = way.row;
     let trial = Trial {
         low,
@@ -135,15 +176,61 @@ pub(crate) fn farthest_taken(
         row,
     };
     let tried = try_value(lows, highs, table, question, terms, trial);
+    let row = tried.row;
+    let was = way.shared;
     if tried.taken {
-        return value;
+        let found = Bracket {
+            inner: value,
+            outer: value,
+            near: row,
+            far: row,
+            tried: true,
+        };
+        let shared = noted(table, last, low, high, was, found);
+        return End { value, shared };
     }
     let gap = Gap {
         member,
         outer: value,
         inner: way.share,
         inward: tried.inward,
-        row: tried.row,
+        row,
+        shared: was,
     };
-    edge(lows, highs, table, question, terms, gap)
+    edge_noted(lows, highs, table, question, terms, gap)
+}
+
+// How far from the share to the end plans give the member values: known of others, or searched.
+pub(crate) fn farthest_taken(
+    lows: &[u64],
+    highs: &[u64],
+    table: &[u64],
+    question: Question,
+    terms: Terms,
+    way: Way,
+) -> End
+    requires { ⌜ Approach (now lows) (now highs) (now table) (question .total) (question .limits) (way .member) (way .end) (way .share) ⌝ }
+    requires { ⌜ Termed (now lows) (now highs) (now table) (question .total) (question .limits) terms ⌝ }
+    requires { ⌜ SharedHolds (now lows) (now highs) (question .total) (question .limits) (way .shared) ⌝ }
+    ensures { λ r. ⌜ EndFound (now (lows .entry)) (now (highs .entry)) (question .total) (question .limits) (way .member) (way .end) (way .share) r ⌝ }
+{
+    let end = way.end;
+    let shared = way.shared;
+    // Some plan gives the share.
+    if end == way.share {
+        return End { value: end, shared };
+    }
+    let member = way.member;
+    let low = lows[member];
+    let high = highs[member];
+    if end_known(low, high, way) {
+        return End { value: end, shared };
+    }
+    if edge_known(low, high, way) {
+        return End {
+            value: shared.inner,
+            shared,
+        };
+    }
+    search(lows, highs, table, question, terms, way)
 }

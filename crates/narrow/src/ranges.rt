@@ -1,6 +1,7 @@
 // Narrowing a group's ranges: a value stays exactly if the group pinned to it has a plan.
-use crate::ends::Way;
-use crate::ends::farthest_taken;
+use crate::known::nothing_known;
+use crate::members::Place;
+use crate::members::narrow_member;
 use model::MOST_UNITS;
 use model::Question;
 use model::Turn;
@@ -48,6 +49,7 @@ fn narrow_on(
     let row = levelled.row;
     let v = levelled.level;
     let mut left = levelled.over;
+    let mut sharing = nothing_known();
     let mut member: usize = 0;
     while member < lows.len() {
         let low = lows[member];
@@ -55,20 +57,16 @@ fn narrow_on(
         let more = extra(low, high, v, left);
         let share = clamp(low, high, v) + more;
         left -= more;
-        let down = Way {
+        let place = Place {
             member,
             share,
-            end: low,
             row,
+            sharing,
         };
-        starts[member] = farthest_taken(lows, highs, table, question, terms, down);
-        let up = Way {
-            member,
-            share,
-            end: high,
-            row,
-        };
-        stops[member] = farthest_taken(lows, highs, table, question, terms, up);
+        let ends = narrow_member(lows, highs, table, question, terms, place);
+        starts[member] = ends.low;
+        stops[member] = ends.high;
+        sharing = ends.sharing;
         member += 1;
     }
     Turn::Narrowed

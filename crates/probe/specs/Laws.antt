@@ -1,4 +1,5 @@
 -- The laws, a file for each topic.
+pub mod Alike
 pub mod Figures
 pub mod Fills
 pub mod Kept

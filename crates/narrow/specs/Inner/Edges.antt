@@ -3,13 +3,13 @@ use Prim.Native.Nat.{ℕ, _≤_, _<_}
 use mathlib.Core.Bool.{Bool, true, false}
 use mathlib.Core.List.{List}
 use mathlib.Core.Path.{_≡_}
-use lib.ListN.{length}
+use lib.ListN.{length, getD}
 use Rattle.model.specs.Shares.{greatestShare}
 use Rattle.model.specs.Figures.{apart}
 use Rattle.model.specs.Plans.{taken}
 use Rattle.model.specs.declared.Limits.{Limits}
 use Rattle.probe.specs.Inner.Probes.{MadeUp}
-use Rattle.narrow.specs.Inner.Tabled.{Tabled}
+use Rattle.narrow.specs.Inner.Tabled.{Tabled, HasPlan}
 
 -- strictly between two values
 pub record Amid (outer inner middle : ℕ) : Type 0 where
@@ -47,3 +47,11 @@ pub record Search (lows highs table : List ℕ) (total : ℕ) (limits : Limits) 
   pub way : Approach lows highs table total limits i outer inner
   pub fails : taken lows highs total limits i outer ≡ false
   pub reach : MadeUp lows highs table total i outer
+
+-- member i of a group that has a plan, and a share in its range that some plan gives it
+pub record Planned (lows highs : List ℕ) (total : ℕ) (limits : Limits) (i share : ℕ) : Type 0 where
+  pub has : HasPlan lows highs total limits
+  pub here : i < length lows
+  pub low : getD lows i 0 ≤ share
+  pub high : share ≤ getD highs i 0
+  pub passes : taken lows highs total limits i share ≡ true

@@ -3,15 +3,10 @@ use Prim.Native.Nat.{ℕ, _≤_, _<_}
 use native.Mathlib.Decide.{decLt}
 use native.Mathlib.Omega.{arith}
 use mathlib.Core.Bool.{Bool, true, false}
-use mathlib.Core.List.{List}
 use mathlib.Core.Logic.{_≢_}
 use mathlib.Core.Path.{_≡_, sym, ap, _∙_}
-use lib.ListN.{length, getD}
 use Rattle.model.specs.Figures.{apart}
-use Rattle.model.specs.Plans.{taken}
 use Rattle.model.specs.Laws.Tests.{clash}
-use Rattle.model.specs.declared.Limits.{Limits}
-use Rattle.narrow.specs.Inner.Tabled.{HasPlan}
 use Rattle.narrow.specs.Inner.Edges.{Amid, Straddle, Edge, Reaches}
 
 -- the two values themselves, at the start
@@ -53,14 +48,6 @@ module _ {test : ℕ → Bool} {end inside : ℕ} where
         };
         near = edge .near;
       })
-
--- member i of a group that has a plan, and a share in its range that some plan gives it
-pub record Planned (lows highs : List ℕ) (total : ℕ) (limits : Limits) (i share : ℕ) : Type 0 where
-  pub has : HasPlan lows highs total limits
-  pub here : i < length lows
-  pub low : getD lows i 0 ≤ share
-  pub high : share ≤ getD highs i 0
-  pub passes : taken lows highs total limits i share ≡ true
 
 -- a value strictly between two is nearer to both than they are to each other, and no greater than both
 pub amid-nearer : {outer inner middle most : ℕ} → 1 < apart outer inner → outer ≤ most → inner ≤ most → Amid outer inner middle

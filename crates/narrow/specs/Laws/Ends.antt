@@ -20,8 +20,7 @@ use Rattle.model.specs.declared.Limits.{Limits}
 use Rattle.probe.specs.Inner.Pinned.{Reached}
 use Rattle.probe.specs.Laws.Pinned.{reached-adds, reached-figures}
 use Rattle.narrow.specs.Inner.Tabled.{Tabled, HasPlan}
-use Rattle.narrow.specs.Inner.Edges.{Edge, Reaches, Approach}
-use Rattle.narrow.specs.Laws.Edges.{Planned}
+use Rattle.narrow.specs.Inner.Edges.{Edge, Reaches, Approach, Planned}
 
 -- a group that has a plan gives member i its share at the level reached by one
 pub levelled-planned : {lows highs : List ℕ} {total : ℕ} {limits : Limits} → HasPlan lows highs total limits

@@ -2,12 +2,13 @@
 use borrow.Author.Needs.{needs}
 use native.Mathlib.Omega.{arith}
 use mathlib.Core.Bool.{Bool}
-use mathlib.Core.Path.{sym, _∙_}
+use mathlib.Core.Path.{refl, sym, _∙_}
 use Prim.Native.Nat.{ℕ, _≤_, _<_}
 use Rattle.model.specs.Shares.{greatestShare}
 use Rattle.model.specs.Figures.{apart}
 use Rattle.model.specs.Plans.{taken}
-use Rattle.narrow.specs.Inner.Edges.{Straddle, Search}
+use Rattle.model.specs.Laws.Tests.{clash}
+use Rattle.narrow.specs.Inner.Known.{Bracketed}
 use Rattle.narrow.specs.Laws.Edges.{straddle-start, straddle-in, straddle-out, amid-nearer}
 use Rattle.narrow.specs.Laws.Reaching.{told}
 use Rattle.narrow.specs.Laws.Searches.{search-triable, search-in, search-out}
@@ -15,12 +16,11 @@ use Rattle.narrow.proofs.ends.edge.Statement.{statement}
 use Rattle.narrow.proofs.ends.edge.Tie as tie
 
 abbrev Inv-loop : tie.InvT-loop
-Inv-loop lows highs table question terms member low high outer₀ inner₀ inward₀ row₀ tries₀ outer inner inward row tries =
-    Straddle (taken lows highs (question .total) (question .limits) member) outer₀ inner₀ outer inner
-    × Search lows highs table (question .total) (question .limits) member outer inner
+Inv-loop lows highs table question terms member low high inward₀ row₀ tries₀ found₀ inward row tries found =
+    Bracketed lows highs table (question .total) (question .limits) member (found₀ .outer) (found₀ .inner) found
 
 abbrev μ-loop : tie.MeasureT-loop
-μ-loop lows highs table question terms member low high outer₀ inner₀ inward₀ row₀ tries₀ outer inner inward row tries = apart outer inner
+μ-loop lows highs table question terms member low high inward₀ row₀ tries₀ found₀ inward row tries found = apart (found .outer) (found .inner)
 
 mul-low : tie.Need-mul-low Inv-loop μ-loop
 mul-low c = search needs
@@ -36,8 +36,9 @@ shared-slice-read-high c = search needs
 
 loop-holds : tie.Need-loop-holds Inv-loop μ-loop
 loop-holds c =
-    let p = c .before .before .before .before .before .pre .0 in
-    (straddle-start _ _ _ (p .fails) (p .way .passes), p)
+    let s = c .before .before .before .before .before in
+    let p = s .pre .0 in
+    record { straddle = straddle-start _ _ _ (p .fails) (p .way .passes); search = p; outerRow = s .pre .1 .0; innerRow = λ tried. absurd (clash tried refl) }
 
 apart-requires : tie.Need-apart-requires Inv-loop μ-loop
 apart-requires c κs = search needs
@@ -59,15 +60,21 @@ module _ (c : tie.After-next-value Inv-loop μ-loop) where
   abbrev value : ℕ
   value = c .next-value .result
 
-  nearer : (apart (turn .loop .outer) value < apart (turn .loop .outer) (turn .loop .inner))
-      × (apart value (turn .loop .inner) < apart (turn .loop .outer) (turn .loop .inner))
+  abbrev outer : ℕ
+  outer = turn .loop .found .outer
+
+  abbrev inner : ℕ
+  inner = turn .loop .found .inner
+
+  nearer : (apart outer value < apart outer inner)
+      × (apart value inner < apart outer inner)
       × (value ≤ greatestShare)
   nearer =
-      let way = turn .loop .inv .1 .way in
+      let way = turn .loop .inv .search .way in
       amid-nearer (omega arith) (way .small) (way .share-small) (c .next-value .ensures)
 
 try-value-requires : tie.Need-try-value-requires Inv-loop μ-loop
-try-value-requires c κs = search-triable (turn c .loop .inv .1) (c .next-value .ensures) (nearer c .2) (start c .pre .1)
+try-value-requires c κs = search-triable (turn c .loop .inv .search) (c .next-value .ensures) (nearer c .2) (start c .pre .1 .1)
 
 fewer-requires : tie.Need-fewer-requires Inv-loop μ-loop
 fewer-requires c κs = search needs
@@ -79,8 +86,14 @@ loop-again : tie.Need-loop-again Inv-loop μ-loop
 loop-again c =
     let v = c .before .before .before in
     let inv = turn v .loop .inv in
-    let passes = sym (told (inv .1 .way) _ (nearer v .2) (c .before .before .try-value .ensures .0)) ∙ c .if2 .taken in
-    (straddle-in (test v) _ _ _ _ _ (inv .0) (v .next-value .ensures) passes, search-in (inv .1) (v .next-value .ensures) (nearer v .2) passes)
+    let tried = c .before .before .try-value .ensures in
+    let passes = sym (told (inv .search .way) _ (nearer v .2) (tried .0)) ∙ c .if2 .taken in
+    record {
+      straddle = straddle-in (test v) _ _ _ _ _ (inv .straddle) (v .next-value .ensures) passes;
+      search = search-in (inv .search) (v .next-value .ensures) (nearer v .2) passes;
+      outerRow = inv .outerRow;
+      innerRow = λ _. rw (start v .pre .1 .1 .group .ended) at (tried .1);
+    }
 
 loop-less-2 : tie.Need-loop-less-2 Inv-loop μ-loop
 loop-less-2 c = nearer (c .before .before .before) .1
@@ -89,13 +102,17 @@ loop-again-2 : tie.Need-loop-again-2 Inv-loop μ-loop
 loop-again-2 c =
     let v = c .before .before .before in
     let inv = turn v .loop .inv in
-    let fails = sym (told (inv .1 .way) _ (nearer v .2) (c .before .before .try-value .ensures .0)) ∙ c .if2 .left in
-    (straddle-out (test v) _ _ _ _ _ (inv .0) (v .next-value .ensures) fails, search-out (inv .1) (v .next-value .ensures) (nearer v .2) fails)
+    let tried = c .before .before .try-value .ensures in
+    let fails = sym (told (inv .search .way) _ (nearer v .2) (tried .0)) ∙ c .if2 .left in
+    record {
+      straddle = straddle-out (test v) _ _ _ _ _ (inv .straddle) (v .next-value .ensures) fails;
+      search = search-out (inv .search) (v .next-value .ensures) (nearer v .2) fails;
+      outerRow = rw (start v .pre .1 .1 .group .ended) at (tried .1);
+      innerRow = inv .innerRow;
+    }
 
 returns : tie.Need-returns Inv-loop μ-loop
-returns c =
-    let turn = c .before .before in
-    record { outer = turn .loop .outer; straddle = turn .loop .inv .0; near = omega arith }
+returns c = record { bracketed = c .before .before .loop .inv; near = omega arith }
 
 pub edge-spec : {M : Type 1} → statement M
 edge-spec =

@@ -1,19 +1,14 @@
--- An end that is the share is taken; else the end moved into reach is tried first, and then the way to it is searched. Assumes nothing.
+-- An end that is the share is taken; what is known of others tells the end, or it is searched. Assumes nothing.
 use borrow.Author.Needs.{needs}
-use mathlib.Core.Bool.{false}
-use mathlib.Core.List.{List}
-use mathlib.Core.Path.{_≡_, sym, _∙_}
-use Prim.Native.Nat.{ℕ}
-use Rattle.model.specs.Plans.{taken}
-use Rattle.model.specs.declared.Limits.{Limits}
-use Rattle.narrow.specs.Inner.Edges.{Reaches, Approach, Search}
-use Rattle.narrow.specs.Laws.Edges.{nearest-reach, nearest-edge}
-use Rattle.narrow.specs.Laws.Reaching.{MovedIntoReach, probes, room, moved, triable, told}
+use Rattle.narrow.specs.Inner.Edges.{Reaches}
+use Rattle.narrow.specs.Laws.Known.{end-reached, edge-reached}
 use Rattle.narrow.proofs.ends.farthest_taken.Statement.{statement}
 use Rattle.narrow.proofs.ends.farthest_taken.Tie as tie
 
 returns : tie.Need-returns
-returns c = Reaches.whole (rw (c .if1 .taken) (c .before .before .before .before .before .pre .0 .passes))
+returns c =
+    let s = c .before .before .before .before .before .before in
+    record { reaches = Reaches.whole (rw (c .if1 .taken) (s .pre .0 .passes)); known = s .pre .1 .1 }
 
 mul-low : tie.Need-mul-low
 mul-low c = search needs
@@ -27,73 +22,35 @@ mul-high c = search needs
 shared-slice-read-high : tie.Need-shared-slice-read-high
 shared-slice-read-high c = search needs
 
-into-reach-requires : tie.Need-into-reach-requires
-into-reach-requires c κs =
-    let p = c .before .before .before .before .before .before .before .pre in
-    let way = p .0 in
-    (rw (p .1 .group .ended) (probes way _ (way .small)), (way .tabled .sound .small, room way))
+-- the start, seen from the first test
+abbrev start : tie.After-end-known → tie.Start
+start c = c .before .before .before .before .before .before .before .before .before
 
--- what the move gives
-module _ (c : tie.After-into-reach) where
-  abbrev start : tie.Start
-  start = c .before .before .before .before .before .before .before .before
-
-  abbrev lows : List ℕ
-  lows = start .args .lows .now
-
-  abbrev highs : List ℕ
-  highs = start .args .highs .now
-
-  abbrev total : ℕ
-  total = start .args .question .total
-
-  abbrev limits : Limits
-  limits = start .args .question .limits
-
-  abbrev i : ℕ
-  i = start .args .way .member
-
-  way : Approach lows highs (start .args .table .now) total limits i (start .args .way .end) (start .args .way .share)
-  way = start .pre .0
-
-  there : MovedIntoReach way (c .into-reach .result)
-  there = moved way (rw (start .pre .1 .group .ended) at (c .into-reach .ensures))
-
-try-value-requires : tie.Need-try-value-requires
-try-value-requires c κs = triable (way c) _ (there c .small) (start c .pre .1) (there c .inReach)
-
--- what the trial tells
-module _ (c : tie.After-try-value) where
-  is-taken : c .try-value .result .taken ≡ taken (lows (c .before)) (highs (c .before)) (total (c .before)) (limits (c .before)) (i (c .before)) (c .before .into-reach .result)
-  is-taken = told (way (c .before)) _ (there (c .before) .small) (c .try-value .ensures .0)
+end-known-requires : tie.Need-end-known-requires
+end-known-requires c κs = search needs
 
 returns-2 : tie.Need-returns-2
-returns-2 c = nearest-reach (there (c .before .before) .nearest) (sym (is-taken (c .before)) ∙ c .if2 .taken)
+returns-2 c =
+    let s = start (c .before) in
+    record { reaches = end-reached (s .pre .0) (s .pre .1 .1) (c .before .end-known .ensures (c .if2 .taken)); known = s .pre .1 .1 }
 
--- the value in reach is not taken: the way from the share to it is searched
-module _ (e : tie.Else2) where
-  abbrev from : tie.After-into-reach
-  from = e .before .before
-
-  fails : taken (lows from) (highs from) (total from) (limits from) (i from) (from .into-reach .result) ≡ false
-  fails = sym (is-taken (e .before)) ∙ e .if2 .left
-
-  searched : Search (lows from) (highs from) (start from .args .table .now) (total from) (limits from) (i from) (from .into-reach .result) (start from .args .way .share)
-  searched =
-      let w = way from in
-      record {
-        way = record { tabled = w .tabled; here = w .here; small = there from .small; share-small = w .share-small; passes = w .passes };
-        fails = fails;
-        reach = there from .inReach;
-      }
-
-edge-requires : tie.Need-edge-requires
-edge-requires c κs = (searched c, start (from c) .pre .1)
+edge-known-requires : tie.Need-edge-known-requires
+edge-known-requires c κs = search needs
 
 returns-3 : tie.Need-returns-3
 returns-3 c =
-    let e = c .before in
-    nearest-edge (there (from e) .nearest) (fails e) (way (from e) .passes) (c .edge .ensures)
+    let told = c .before in
+    let s = start (told .before .before) in
+    record {
+      reaches = edge-reached (s .pre .0) (s .pre .1 .1) (told .before .before .before .before .before .if1 .left) (told .edge-known .ensures (c .if3 .taken));
+      known = s .pre .1 .1;
+    }
+
+search-requires : tie.Need-search-requires
+search-requires c κs = search needs
+
+returns-4 : tie.Need-returns-4
+returns-4 c = search needs
 
 pub farthest-taken-spec : {M : Type 1} → statement M
 farthest-taken-spec =
@@ -104,8 +61,9 @@ farthest-taken-spec =
     shared-slice-read-low
     mul-high
     shared-slice-read-high
-    into-reach-requires
-    try-value-requires
+    end-known-requires
     returns-2
-    edge-requires
-    returns-3)
+    edge-known-requires
+    returns-3
+    search-requires
+    returns-4)

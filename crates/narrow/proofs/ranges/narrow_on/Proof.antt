@@ -19,20 +19,23 @@ use Rattle.probe.specs.Laws.Terms.{level-reached, level-planned}
 use Rattle.model.specs.Laws.Bounds.{share-at-small}
 use Rattle.model.specs.Laws.Sound.{shares-had}
 use Rattle.narrow.specs.Inner.Tabled.{HasPlan}
-use Rattle.narrow.specs.Laws.Edges.{Planned}
-use Rattle.narrow.specs.Laws.Ends.{levelled-planned, to-low, to-high, low-reached, high-reached}
+use Rattle.narrow.specs.Inner.Edges.{Planned}
+use Rattle.narrow.specs.Inner.Known.{SharingHolds}
+use Rattle.narrow.specs.Laws.Ends.{levelled-planned}
+use Rattle.narrow.specs.Laws.Known.{nothing-known}
 use Rattle.narrow.proofs.ranges.narrow_on.Statement.{statement}
 use Rattle.narrow.proofs.ranges.narrow_on.Tie as tie
 
 abbrev Inv-loop : tie.InvT-loop
-Inv-loop lows highs table question starts₀ stops₀ terms row v left₀ i₀ starts stops left i =
+Inv-loop lows highs table question starts₀ stops₀ terms row v left₀ sharing₀ i₀ starts stops left sharing i =
     (i ≤ length lows)
     × Filled (narrowedLows lows highs (question .total) (question .limits)) starts₀ starts i
     × Filled (narrowedHighs lows highs (question .total) (question .limits)) stops₀ stops i
     × Ahead lows highs v left₀ left i
+    × SharingHolds lows highs (question .total) (question .limits) sharing
 
 abbrev μ-loop : tie.MeasureT-loop
-μ-loop lows highs table question starts₀ stops₀ terms row v left₀ i₀ starts stops left i = length lows - i
+μ-loop lows highs table question starts₀ stops₀ terms row v left₀ sharing₀ i₀ starts stops left sharing i = length lows - i
 
 -- the narrowed lists are as long as the group
 module _ (s : tie.Start Inv-loop μ-loop) where
@@ -80,20 +83,23 @@ module _ (c : tie.Else1 Inv-loop μ-loop) where
     found = rw (← is-planned (c .before .before)) (not-false (c .before .before .level-on .result .planned) (c .if1 .left));
   }
 
+nothing-known-requires : tie.Need-nothing-known-requires Inv-loop μ-loop
+nothing-known-requires c κs = search needs
+
 loop-holds : tie.Need-loop-holds Inv-loop μ-loop
-loop-holds c = (search needs, filled-none _ _, filled-none _ _, refl)
+loop-holds c = (search needs, filled-none _ _, filled-none _ _, refl, nothing-known (begun (c .before) .pre .0 .sound .ranges) (c .nothing-known .ensures))
 
 mul-low : tie.Need-mul-low Inv-loop μ-loop
-mul-low c = search needs
+mul-low c = omega (arith, begun (c .before .before .before) .pre .0 .sound .few)
 
 shared-slice-read-low : tie.Need-shared-slice-read-low Inv-loop μ-loop
 shared-slice-read-low c = search needs
 
 mul-high : tie.Need-mul-high Inv-loop μ-loop
-mul-high c = search needs
+mul-high c = omega (arith, begun (c .before .before .before .before) .pre .0 .sound .few)
 
 shared-slice-read-high : tie.Need-shared-slice-read-high Inv-loop μ-loop
-shared-slice-read-high c = search needs
+shared-slice-read-high c = omega (arith, begun (c .before .before .before .before .before) .pre .0 .sound .paired)
 
 extra-requires : tie.Need-extra-requires Inv-loop μ-loop
 extra-requires c κs = search needs
@@ -101,7 +107,7 @@ extra-requires c κs = search needs
 clamp-requires : tie.Need-clamp-requires Inv-loop μ-loop
 clamp-requires c κs =
     let turn = c .before .before .before .before in
-    ranges-at (begun (turn .before) .pre .0 .sound .ranges) (turn .loop .member) (omega arith) .0
+    ranges-at (begun (turn .before .before) .pre .0 .sound .ranges) (turn .loop .member) (omega arith) .0
 
 -- the loop's turn and the member's share, seen from the share on
 module _ (c : tie.After-clamp Inv-loop μ-loop) where
@@ -109,7 +115,7 @@ module _ (c : tie.After-clamp Inv-loop μ-loop) where
   turn = c .before .before .before .before .before
 
   abbrev from : tie.Start Inv-loop μ-loop
-  from = begun (turn .before)
+  from = begun (turn .before .before)
 
   abbrev lows : List ℕ
   lows = from .args .lows .now
@@ -118,10 +124,10 @@ module _ (c : tie.After-clamp Inv-loop μ-loop) where
   highs = from .args .highs .now
 
   abbrev v : ℕ
-  v = turn .before .before .before .level-on .result .level
+  v = turn .before .before .before .before .level-on .result .level
 
   abbrev left : ℕ
-  left = turn .before .before .before .level-on .result .over
+  left = turn .before .before .before .before .level-on .result .over
 
   abbrev i : ℕ
   i = turn .loop .member
@@ -137,7 +143,7 @@ module _ (c : tie.After-clamp Inv-loop μ-loop) where
   is-share = sym (ahead-share lows highs i (omega arith) (omega (arith, from .pre .0 .sound .paired)) v left (turn .loop .left) (c .clamp .result) more (c .clamp .ensures) (c .before .extra .ensures) (turn .loop .inv .3))
 
   planned : Planned lows highs (from .args .question .total) (from .args .question .limits) i share
-  planned = rw is-share (levelled-planned (has-one (turn .before)) (level-reached (termed (turn .before .before .before)) (turn .before .before .before .level-on .ensures)) i (omega arith))
+  planned = rw is-share (levelled-planned (has-one (turn .before .before)) (level-reached (termed (turn .before .before .before .before)) (turn .before .before .before .before .level-on .ensures)) i (omega arith))
 
   next : Ahead lows highs v left (turn .loop .left - more) (i + 1)
   next = ahead-step lows highs i (omega arith) (omega (arith, from .pre .0 .sound .paired)) v left (turn .loop .left) (c .clamp .result) more (c .clamp .ensures) (c .before .extra .ensures) (turn .loop .inv .3)
@@ -148,8 +154,8 @@ add-share c = omega (arith, share-at-small (from c .pre .0 .sound) (i c) (v c) (
 sub-left : tie.Need-sub-left Inv-loop μ-loop
 sub-left c = search needs
 
-farthest-taken-requires : tie.Need-farthest-taken-requires Inv-loop μ-loop
-farthest-taken-requires c κs = (to-low (planned c) (from c .pre .1 .0), termed (turn c .before .before .before))
+narrow-member-requires : tie.Need-narrow-member-requires Inv-loop μ-loop
+narrow-member-requires c κs = (planned c, (from c .pre .1 .0, (termed (turn c .before .before .before .before), turn c .loop .inv .4)))
 
 mul-starts : tie.Need-mul-starts Inv-loop μ-loop
 mul-starts c = omega (arith, from (c .before) .pre .0 .sound .few)
@@ -157,14 +163,11 @@ mul-starts c = omega (arith, from (c .before) .pre .0 .sound .few)
 slice-write-starts : tie.Need-slice-write-starts Inv-loop μ-loop
 slice-write-starts c = omega (arith, turn (c .before) .loop .inv .1 .size, from (c .before) .pre .1 .1 .0)
 
-farthest-taken-requires-2 : tie.Need-farthest-taken-requires-2 Inv-loop μ-loop
-farthest-taken-requires-2 c κs = (to-high (planned (c .before)) (from (c .before) .pre .1 .0), termed (turn (c .before) .before .before .before))
-
 mul-stops : tie.Need-mul-stops Inv-loop μ-loop
-mul-stops c = omega (arith, from (c .before .before) .pre .0 .sound .few)
+mul-stops c = omega (arith, from (c .before) .pre .0 .sound .few)
 
 slice-write-stops : tie.Need-slice-write-stops Inv-loop μ-loop
-slice-write-stops c = omega (arith, turn (c .before .before) .loop .inv .2 .size, from (c .before .before) .pre .1 .1 .1)
+slice-write-stops c = omega (arith, turn (c .before) .loop .inv .2 .size, from (c .before) .pre .1 .1 .1)
 
 add-member : tie.Need-add-member Inv-loop μ-loop
 add-member c = omega (arith, from (c .before .before) .pre .0 .sound .few)
@@ -175,13 +178,15 @@ loop-less c = search needs
 loop-again : tie.Need-loop-again Inv-loop μ-loop
 loop-again c =
     let m = c .before .before in
-    let inv = turn m .loop .inv in (
+    let inv = turn m .loop .inv in
+    let narrowed = c .before .narrow-member .ensures in (
       search needs,
       filled-more (inv .1) (omega (arith, many-lows (from m))) (omega (arith, from m .pre .1 .1 .0)) _
-          (low-reached (planned m) (c .before .farthest-taken .ensures) ∙ sym (narrowedLows-at _ _ _ _ (i m) (omega arith))),
+          (narrowed .lowIs ∙ sym (narrowedLows-at _ _ _ _ (i m) (omega arith))),
       filled-more (inv .2) (omega (arith, many-highs (from m))) (omega (arith, from m .pre .1 .1 .1)) _
-          (high-reached (planned m) (c .farthest-taken2 .ensures) ∙ sym (narrowedHighs-at _ _ _ _ (i m) (omega arith))),
+          (narrowed .highIs ∙ sym (narrowedHighs-at _ _ _ _ (i m) (omega arith))),
       next m,
+      narrowed .known,
     )
 
 same-length : tie.Need-same-length Inv-loop μ-loop
@@ -193,8 +198,8 @@ same-length-2 c = c .before .loop .inv .2 .size
 returns-2 : tie.Need-returns-2 Inv-loop μ-loop
 returns-2 c =
     let inv = c .before .loop .inv in
-    let s = begun (c .before .before) in (
-      sym (found-turn _ _ _ _ (has-one (c .before .before) .found)),
+    let s = begun (c .before .before .before) in (
+      sym (found-turn _ _ _ _ (has-one (c .before .before .before) .found)),
       (
         filled-all (inv .1) (s .pre .1 .1 .0 ∙ sym (many-lows s)) (omega (arith, many-lows s)),
         filled-all (inv .2) (s .pre .1 .1 .1 ∙ sym (many-highs s)) (omega (arith, many-highs s)),
@@ -210,6 +215,7 @@ narrow-on-spec =
     terms-of-requires
     level-on-requires
     returns
+    nothing-known-requires
     loop-holds
     mul-low
     shared-slice-read-low
@@ -219,10 +225,9 @@ narrow-on-spec =
     clamp-requires
     add-share
     sub-left
-    farthest-taken-requires
+    narrow-member-requires
     mul-starts
     slice-write-starts
-    farthest-taken-requires-2
     mul-stops
     slice-write-stops
     add-member
