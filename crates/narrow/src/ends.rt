@@ -2,8 +2,6 @@
 use crate::known::Bracket;
 use crate::known::Shared;
 use crate::known::Way;
-use crate::known::edge_known;
-use crate::known::end_known;
 use crate::known::noted;
 use model::Question;
 use model::levels::clamp;
@@ -150,7 +148,7 @@ fn edge_noted(
 }
 
 // How far from the share to the end plans give the member values, by trials.
-fn search(
+pub(crate) fn search(
     lows: &[u64],
     highs: &[u64],
     table: &[u64],
@@ -198,39 +196,4 @@ fn search(
         shared: was,
     };
     edge_noted(lows, highs, table, question, terms, gap)
-}
-
-// How far from the share to the end plans give the member values: known of others, or searched.
-pub(crate) fn farthest_taken(
-    lows: &[u64],
-    highs: &[u64],
-    table: &[u64],
-    question: Question,
-    terms: Terms,
-    way: Way,
-) -> End
-    requires { ⌜ Approach (now lows) (now highs) (now table) (question .total) (question .limits) (way .member) (way .end) (way .share) ⌝ }
-    requires { ⌜ Termed (now lows) (now highs) (now table) (question .total) (question .limits) terms ⌝ }
-    requires { ⌜ SharedHolds (now lows) (now highs) (question .total) (question .limits) (way .shared) ⌝ }
-    ensures { λ r. ⌜ EndFound (now (lows .entry)) (now (highs .entry)) (question .total) (question .limits) (way .member) (way .end) (way .share) r ⌝ }
-{
-    let end = way.end;
-    let shared = way.shared;
-    // Some plan gives the share.
-    if end == way.share {
-        return End { value: end, shared };
-    }
-    let member = way.member;
-    let low = lows[member];
-    let high = highs[member];
-    if end_known(low, high, way) {
-        return End { value: end, shared };
-    }
-    if edge_known(low, high, way) {
-        return End {
-            value: shared.inner,
-            shared,
-        };
-    }
-    search(lows, highs, table, question, terms, way)
 }

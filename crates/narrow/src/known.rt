@@ -6,7 +6,7 @@ ghost use mathlib.Core.Bool.{true};
 ghost use mathlib.Core.Path.{_≡_};
 ghost use Prim.Native.Nat.{_+_, _*_, _<_, _≤_, min, max};
 ghost use lib.ListN.{length};
-ghost use Rattle.narrow.specs.Inner.Known.{NothingKnown, EndKnown, EdgeKnown, Noted};
+ghost use Rattle.narrow.specs.Inner.Known.{NothingKnown, EndKnown, EdgeKnown, SeenTo, Noted};
 
 // What is known of every member with low at most under and high at least over: some plan gives it inner and, where outer
 // is another value, the one next to inner, none gives it outer.
@@ -59,7 +59,7 @@ fn told(low: u64, high: u64, shared: Shared) -> bool
 }
 
 // Whether the end lies between the share and a value that is known to be taken.
-pub(crate) fn end_known(low: u64, high: u64, way: Way) -> bool
+fn end_known(low: u64, high: u64, way: Way) -> bool
     ensures { λ r. ⌜ (r ≡ true → EndKnown low high (way .share) (way .end) (way .shared)) ⌝ }
 {
     if !told(low, high, way.shared) {
@@ -85,7 +85,7 @@ fn in_order(first: u64, second: u64, third: u64, fourth: u64) -> bool
 }
 
 // Whether a known edge lies between the share and the end.
-pub(crate) fn edge_known(low: u64, high: u64, way: Way) -> bool
+fn edge_known(low: u64, high: u64, way: Way) -> bool
     ensures { λ r. ⌜ (r ≡ true → EdgeKnown low high (way .share) (way .end) (way .shared)) ⌝ }
 {
     if !told(low, high, way.shared) {
@@ -95,6 +95,41 @@ pub(crate) fn edge_known(low: u64, high: u64, way: Way) -> bool
         return in_order(way.end, way.shared.outer, way.shared.inner, way.share);
     }
     in_order(way.share, way.shared.inner, way.shared.outer, way.end)
+}
+
+// How far from the share to the end plans give a member values, where that needs no trial.
+pub(crate) struct Seen {
+    pub(crate) known: bool,
+    pub(crate) value: u64,
+}
+
+// What is known of the end: some plan gives the share itself, and others' searches tell the rest.
+pub(crate) fn seen_at(low: u64, high: u64, way: Way) -> Seen
+    ensures { λ r. ⌜ (r .known ≡ true → SeenTo low high (way .share) (way .end) (way .shared) (r .value)) ⌝ }
+{
+    let end = way.end;
+    if end == way.share {
+        return Seen {
+            known: true,
+            value: end,
+        };
+    }
+    if end_known(low, high, way) {
+        return Seen {
+            known: true,
+            value: end,
+        };
+    }
+    if edge_known(low, high, way) {
+        return Seen {
+            known: true,
+            value: way.shared.inner,
+        };
+    }
+    Seen {
+        known: false,
+        value: end,
+    }
 }
 
 // A value that some plan gives a member and one that none gives it, or the same again. Near is the row found for inner, where it

@@ -53,6 +53,12 @@ pub record EdgeKnown (low high share end : ℕ) (shared : Shared) : Type 0 where
   pub rising : end < share → (end ≤ shared .outer) × (shared .outer < shared .inner) × (shared .inner ≤ share)
   pub falling : share ≤ end → (share ≤ shared .inner) × (shared .inner < shared .outer) × (shared .outer ≤ end)
 
+-- so that values are taken as far as seen: the end is the share, or lies before inner; or they end at inner
+pub data SeenTo (low high share end : ℕ) (shared : Shared) : ℕ → Type 0 where
+  itself : end ≡ share → SeenTo low high share end shared end
+  within : EndKnown low high share end shared → SeenTo low high share end shared end
+  before : end ≢ share → EdgeKnown low high share end shared → SeenTo low high share end shared (shared .inner)
+
 -- what was found of a member with this low and high serves others from the level of the first row to that after the last one
 pub record Serves (table : List ℕ) (last low high : ℕ) (found : Bracket) (r : Shared) : Type 0 where
   pub tried : found .tried ≡ true

@@ -3,7 +3,7 @@ use Prim.Native.Nat.{ℕ, zero, suc, _+_, _*_, _≤_, _<_, min, max}
 use mathlib.Core.Bool.{Bool, true, false}
 use mathlib.Core.List.{List}
 use mathlib.Core.Logic.{_≢_}
-use mathlib.Core.Path.{_≡_, refl, sym, _∙_}
+use mathlib.Core.Path.{_≡_, refl, sym, ap, _∙_}
 use native.Mathlib.Decide.{decLt}
 use native.Mathlib.Nat.{le-dest}
 use native.Mathlib.Omega.{arith}
@@ -22,7 +22,7 @@ use Rattle.narrow.specs.declared.known.Sharing.{Sharing}
 use Rattle.narrow.specs.declared.known.Bracket.{Bracket}
 use Rattle.narrow.specs.Inner.Tabled.{Tabled}
 use Rattle.narrow.specs.Inner.Edges.{Edge, Reaches, Approach}
-use Rattle.narrow.specs.Inner.Known.{Outcomes, SharedHolds, SharingHolds, NothingKnown, EndKnown, EdgeKnown, Serves, Noted, RowOf, EdgeFound}
+use Rattle.narrow.specs.Inner.Known.{Outcomes, SharedHolds, SharingHolds, NothingKnown, EndKnown, EdgeKnown, SeenTo, Serves, Noted, RowOf, EdgeFound}
 use Rattle.narrow.specs.Laws.Taken.{taken-between}
 
 -- where no high is so great, nothing is claimed
@@ -43,7 +43,7 @@ module _ {lows highs table : List ℕ} {total : ℕ} {limits : Limits} {i end sh
   between = taken-between (way .tabled .sound .ranges) total limits i (way .here)
 
   -- an end between two values that are taken is taken
-  pub end-reached : EndKnown (getD lows i 0) (getD highs i 0) share end shared → Reaches test end share end
+  end-reached : EndKnown (getD lows i 0) (getD highs i 0) share end shared → Reaches test end share end
   end-reached told =
       let held = known .of i (way .here) (told .under) (told .over) in
       elim (decLt end share) [
@@ -52,7 +52,7 @@ module _ {lows highs table : List ℕ} {total : ℕ} {limits : Limits} {i end sh
       ]
 
   -- an edge on the way to the end is how far values are taken
-  pub edge-reached : end ≢ share → EdgeKnown (getD lows i 0) (getD highs i 0) share end shared → Reaches test end share (shared .inner)
+  edge-reached : end ≢ share → EdgeKnown (getD lows i 0) (getD highs i 0) share end shared → Reaches test end share (shared .inner)
   edge-reached other told =
       let held = known .of i (way .here) (told .under) (told .over) in
       elim (decLt end share) [
@@ -75,6 +75,12 @@ module _ {lows highs table : List ℕ} {total : ℕ} {limits : Limits} {i end sh
               near = held .near;
             })
       ]
+
+  -- values are taken as far as seen
+  pub seen-reached : {r : ℕ} → SeenTo (getD lows i 0) (getD highs i 0) share end shared r → Reaches test end share r
+  seen-reached (SeenTo.itself same) = Reaches.whole (ap test same ∙ way .passes)
+  seen-reached (SeenTo.within told) = end-reached told
+  seen-reached (SeenTo.before other told) = edge-reached other told
 
 -- the levels of the rows rise
 marks-rise : {lows highs table : List ℕ} → Breakpoints lows highs table → (steps a b : ℕ) → a + steps ≡ b → b ≤ lastRow table
