@@ -1,6 +1,5 @@
 // Building the breakpoint table of a group: the bounds of the members with several values sorted, then a row for each.
 use crate::order::sort;
-use crate::rows::read_row;
 use crate::rows::write_row;
 use crate::table::first_row;
 use crate::table::next_row;
@@ -45,7 +44,7 @@ fn gather(lows: &[u64], highs: &[u64], starts: &mut [u64], stops: &mut [u64]) ->
     count
 }
 
-// Fills the table from the sorted bounds, row after row.
+// Fills the table from the sorted bounds, row after row, each made from the one before.
 fn fill(lows: &[u64], highs: &[u64], starts: &[u64], stops: &[u64], table: &mut [u64])
     requires { ⌜ SoundRanges (now lows) (now highs) ⌝ }
     requires { ⌜ Risen (now lows) (now highs) (now starts) (now stops) ⌝ }
@@ -53,14 +52,13 @@ fn fill(lows: &[u64], highs: &[u64], starts: &[u64], stops: &[u64], table: &mut 
     ensures { λ _. ⌜ Breakpoints (now (lows .entry)) (now (highs .entry)) (now (table .exit)) ⌝ }
 {
     let last = 2 * starts.len();
-    let first = first_row(lows, highs);
-    write_row(table, 0, first);
+    let mut row = first_row(lows, highs);
+    write_row(table, 0, row);
     let mut k: usize = 0;
     while k < last {
-        let row = read_row(table, k);
-        let next = next_row(lows, highs, starts, stops, row);
+        row = next_row(lows, highs, starts, stops, row);
         k += 1;
-        write_row(table, k, next);
+        write_row(table, k, row);
     }
 }
 

@@ -7,7 +7,7 @@ ghost use Rattle.model.specs.Sound.{SoundRanges};
 ghost use lib.ListN.{length};
 ghost use Rattle.probe.specs.Inner.Walks.{First};
 ghost use Rattle.probe.specs.Inner.Steps.{Risen, RowReached, NextRow, Begun};
-ghost use Rattle.probe.specs.Inner.Tables.{Sums, SpanTo, Movable, RowMoved, square};
+ghost use Rattle.probe.specs.Inner.Tables.{Sums, SpanTo, RowMoved, square};
 
 // A share's part of the sum of squares.
 pub fn square(x: u64) -> u64
@@ -17,15 +17,8 @@ pub fn square(x: u64) -> u64
     x * x
 }
 
-// A sum after some parts have moved from one value to another, and others back.
-fn moved(stored: u64, up: u64, down: u64, from: u64, to: u64) -> u64
-    requires { ⌜ Movable stored up down from to ⌝ }
-    ensures { λ r. ⌜ r + (up * from + down * to) ≡ stored + (up * to + down * from) ⌝ }
-{
-    stored + (up * to + down * from) - (up * from + down * to)
-}
-
-// A row moved to a further level, with no bound between.
+// A row moved to a further level, with no bound between: T rises in each step by the lows passed without the highs passed,
+// and the sum of squares by as much for each of both levels.
 fn row_at(lows: &[u64], highs: &[u64], row: Row, mark: u64) -> Row
     requires { ⌜ SoundRanges (now lows) (now highs) ⌝ }
     requires { ⌜ Sums (now lows) (now highs) row ⌝ }
@@ -33,16 +26,14 @@ fn row_at(lows: &[u64], highs: &[u64], row: Row, mark: u64) -> Row
     requires { ⌜ mark ≤ greatestShare ⌝ }
     ensures { λ r. ⌜ RowMoved (now (lows .entry)) (now (highs .entry)) row mark r ⌝ }
 {
+    let step = mark - row.mark;
+    let more = row.lows * step - row.highs * step;
+    let total = row.total + more;
+    let squares = row.squares + more * (row.mark + mark);
     Row {
         mark,
-        total: moved(row.total, row.lows, row.highs, row.mark, mark),
-        squares: moved(
-            row.squares,
-            row.lows,
-            row.highs,
-            square(row.mark),
-            square(mark),
-        ),
+        total,
+        squares,
         lows: row.lows,
         highs: row.highs,
     }

@@ -49,15 +49,6 @@ pub record Breakpoints (lows highs table : List ℕ) : Type 0 where
 abbrev pub greatestPart : ℕ
 greatestPart = 2_000_000_000_000
 
--- numbers whose sum may be moved: a parts go from one value to another, and b back
-pub record Movable (stored a b from to : ℕ) : Type 0 where
-  pub storedSmall : stored ≤ mostUnits * greatestPart
-  pub upSmall : a ≤ mostUnits
-  pub downSmall : b ≤ mostUnits
-  pub fromSmall : from ≤ greatestPart
-  pub toSmall : to ≤ greatestPart
-  pub fits : a * from + b * to ≤ stored + (a * to + b * from)
-
 -- a row moved to a further level
 pub record RowMoved (lows highs : List ℕ) (row : Row) (mark : ℕ) (after : Row) : Type 0 where
   pub sums : Sums lows highs after

@@ -16,39 +16,41 @@ use Rattle.probe.specs.Laws.Walks.{parted-none, parted-all}
 use Rattle.probe.specs.Inner.Tables.{Sums, SpanTo, Breakpoints}
 use Rattle.probe.specs.Inner.Steps.{Risen, RowReached, NextRow, Begun}
 
--- the rows up to k are filled
-pub record RowsTo (lows highs starts stops : List ℕ) (k : ℕ) (table : List ℕ) : Type 0 where
+-- the rows up to k are filled, and this one is the last of them
+pub record RowsTo (lows highs starts stops : List ℕ) (k : ℕ) (row : Row) (table : List ℕ) : Type 0 where
   pub room : length table ≡ 5 * (2 * length starts) + 5
   pub few : k ≤ 2 * length starts
   pub first : rowAt table 0 .mark ≡ 0
   pub sums : (j : ℕ) → j ≤ k → Sums lows highs (rowAt table j)
   pub spans : (j : ℕ) → j < k → SpanTo lows highs (rowAt table j) (rowAt table (suc j) .mark)
-  pub walk : RowReached lows highs starts stops (rowAt table k)
-  pub counted : rowAt table k .lows + rowAt table k .highs ≡ k
+  pub here : rowAt table k ≡ row
+  pub walk : RowReached lows highs starts stops row
+  pub counted : row .lows + row .highs ≡ k
 
 module _ {lows highs starts stops : List ℕ} where
   -- the first row
   pub filled-first : {row : Row} {before table : List ℕ} → length before ≡ 5 * (2 * length starts) + 5
-      → Begun lows highs row → RowWritten 0 row before table → RowsTo lows highs starts stops 0 table
+      → Begun lows highs row → RowWritten 0 row before table → RowsTo lows highs starts stops 0 row table
   filled-first {row} {before} {table} room begun put = record {
     room = rw (put .same) room;
     few = omega arith;
     first = rw (put .here) (begun .at);
     sums = λ j h. let e : j ≡ 0 = omega arith in rw (e, put .here) (begun .sums);
     spans = λ j h. absurd (omega arith);
-    walk = rw (put .here) (record {
+    here = put .here;
+    walk = record {
       sums = begun .sums;
       partedLows = rw (begun .at, begun .noLows) (parted-none starts);
       partedHighs = rw (begun .at, begun .noHighs) (parted-none stops);
-    });
-    counted = rw (put .here) (omega (arith, begun .noLows, begun .noHighs));
+    };
+    counted = omega (arith, begun .noLows, begun .noHighs);
   }
 
   -- one row more
-  pub rows-next : {k : ℕ} {row : Row} {before table : List ℕ} → RowsTo lows highs starts stops k before → k < 2 * length starts
-      → NextRow lows highs starts stops (rowAt before k) row → RowWritten (suc k) row before table
-      → RowsTo lows highs starts stops (suc k) table
-  rows-next {k} {row} {before} {table} filled more stepped put =
+  pub rows-next : {k : ℕ} {row next : Row} {before table : List ℕ} → RowsTo lows highs starts stops k row before → k < 2 * length starts
+      → NextRow lows highs starts stops row next → RowWritten (suc k) next before table
+      → RowsTo lows highs starts stops (suc k) next table
+  rows-next {k} {row} {next} {before} {table} filled more stepped put =
       let kept : (j : ℕ) → j ≤ k → rowAt table j ≡ rowAt before j = (λ j h. put .others j (λ e. omega arith)) in
       record {
         room = rw (put .same) (filled .room);
@@ -59,32 +61,32 @@ module _ {lows highs starts stops : List ℕ} where
           | no e ↦ rw (kept j (omega arith)) (filled .sums j (omega arith))
         ];
         spans = λ j h. elim (ℕ-discrete j k) [
-          | yes e ↦ rw (e, put .here, kept k (omega arith)) (stepped .span)
+          | yes e ↦ rw (e, put .here, kept k (omega arith), filled .here) (stepped .span)
           | no e ↦ rw (kept j (omega arith), kept (suc j) (omega arith)) (filled .spans j (omega arith))
         ];
-        walk = rw (put .here) (stepped .walk);
-        counted = rw (put .here) (omega (arith, stepped .counted, filled .counted));
+        here = put .here;
+        walk = stepped .walk;
+        counted = omega (arith, stepped .counted, filled .counted);
       }
 
   -- all rows: every bound is passed
-  pub rows-all : {k : ℕ} {table : List ℕ} → SoundRanges lows highs → Risen lows highs starts stops
-      → RowsTo lows highs starts stops k table → 2 * length starts ≤ k → Breakpoints lows highs table
-  rows-all {k} {table} sound risen filled past =
+  pub rows-all : {k : ℕ} {row : Row} {table : List ℕ} → SoundRanges lows highs → Risen lows highs starts stops
+      → RowsTo lows highs starts stops k row table → 2 * length starts ≤ k → Breakpoints lows highs table
+  rows-all {k} {row} {table} sound risen filled past =
       let bounds = bounds-few sound risen in
       let full : lastRow table ≡ k = last-row table (2 * length starts) (filled .room) ∙ omega (arith, filled .few) in
-      let end : Row = rowAt table k in
       let few-lows = filled .walk .partedLows .few in
       let few-highs = filled .walk .partedHighs .few in
-      let all-lows : end .lows ≡ length starts = omega (arith, filled .counted, bounds .1) in
-      let all-highs : end .highs ≡ length stops = omega (arith, filled .counted, bounds .1) in
+      let all-lows : row .lows ≡ length starts = omega (arith, filled .counted, bounds .1) in
+      let all-highs : row .highs ≡ length stops = omega (arith, filled .counted, bounds .1) in
       record {
         room = omega (arith, filled .room, filled .few);
         few = omega (arith, filled .few, bounds .0);
         first = filled .first;
         sums = λ j h. filled .sums j (omega arith);
         spans = λ j h. filled .spans j (omega arith);
-        last = rw full (kept-span (sound .ranges) (risen .kept) (span (kept-ranges (sound .ranges) (risen .kept)) (risen .startsFrom .rearranged) (risen .stopsFrom .rearranged)
+        last = rw (full, filled .here) (kept-span (sound .ranges) (risen .kept) (span (kept-ranges (sound .ranges) (risen .kept)) (risen .startsFrom .rearranged) (risen .stopsFrom .rearranged)
             (omega (arith, filled .walk .sums .share))
             (parted-all (filled .walk .partedLows) all-lows) (parted-all (filled .walk .partedHighs) all-highs)));
-        all = rw full (omega (arith, bounds .1));
+        all = rw (full, filled .here) (omega (arith, bounds .1));
       }

@@ -16,7 +16,7 @@ use Rattle.model.specs.declared.Figures.{Figures}
 use Rattle.model.specs.declared.Limits.{Limits}
 use Rattle.model.specs.Laws.Level.{totalAt-least, totalAt-greatest}
 use Rattle.model.specs.Laws.Levelled.{topped-within}
-use Rattle.model.specs.Laws.Lists.{sum-sumOf, within-at, within-length, ranges-at}
+use Rattle.model.specs.Laws.Lists.{within-at, within-length, ranges-at}
 use Rattle.model.specs.Laws.Spread.{cauchy-schwarz, sumOf-bound}
 use Rattle.model.specs.Laws.Tests.{right-fails}
 use Rattle.probe.specs.declared.probing.Pinned.{Pinned}
@@ -24,7 +24,7 @@ use Rattle.probe.specs.declared.rows.Row.{Row}
 use Rattle.probe.specs.declared.terms.Terms.{Terms}
 use Rattle.probe.specs.Inner.Rows.{rowAt, lastRow}
 use Rattle.probe.specs.Inner.Tables.{SoundWithTotal, Breakpoints, greatestPart, itself, square}
-use Rattle.probe.specs.Laws.Tables.{Small, small-square}
+use Rattle.probe.specs.Laws.Tables.{Small, small-square, total-itself}
 use Rattle.probe.specs.Inner.Pinned.{Pin, Reached}
 use Rattle.probe.specs.Laws.Pinned.{pinned-span, reached-adds, reached-figures}
 use Rattle.probe.specs.Inner.Probes.{pinnedTotal}
@@ -51,11 +51,6 @@ grown {low} {high} {m} ordered past =
           rw (le-leb low m from, le-ltb m high ends)
       | no before ↦ rw (lt-leb low m (omega arith))
     ]
-
--- T is the sum of the shares themselves
-total-itself : (lows highs : List ℕ) (w : ℕ) → totalAt lows highs w ≡ sumOf itself (clamped lows highs w)
-unfolding totalAt
-total-itself lows highs w = sum-sumOf (clamped lows highs w)
 
 module _ {lows highs lows′ highs′ : List ℕ} {total low high v : ℕ} (sound : SoundWithTotal lows highs total) (pin : Pin lows highs low high v lows′ highs′) where
   module _ {m c w r : ℕ} (reached : Reached lows′ highs′ total m c w r) {d q : ℕ}

@@ -11,10 +11,10 @@ use Rattle.probe.proofs.build.fill.Statement.{statement}
 use Rattle.probe.proofs.build.fill.Tie as tie
 
 abbrev Inv-loop : tie.InvT-loop
-Inv-loop lows highs starts stops table₀ last k₀ table k = RowsTo lows highs starts stops k table × (length table ≡ length table₀)
+Inv-loop lows highs starts stops table₀ last row₀ k₀ table row k = RowsTo lows highs starts stops k row table × (length table ≡ length table₀)
 
 abbrev μ-loop : tie.MeasureT-loop
-μ-loop lows highs starts stops table₀ last k₀ table k = 2 * length starts - k
+μ-loop lows highs starts stops table₀ last row₀ k₀ table row k = 2 * length starts - k
 
 -- the function's start, seen from the loop
 abbrev start : tie.At-loop Inv-loop μ-loop → tie.Start Inv-loop μ-loop
@@ -34,18 +34,15 @@ loop-holds c =
     let w = c .before .before in
     (filled-first (w .before .before .before .before .before .before .before .before .pre .1 .1) (w .before .before .first-row .ensures) (w .write-row .ensures), refl)
 
-read-row-requires : tie.Need-read-row-requires Inv-loop μ-loop
-read-row-requires c κs = search needs
-
 next-row-requires : tie.Need-next-row-requires Inv-loop μ-loop
 next-row-requires c κs =
-    let t = c .before .before .before in
+    let t = c .before in
     let inv = t .loop .inv .0 in
-    (start t .pre .0, (start t .pre .1 .0, rw (c .read-row .ensures) (inv .walk, omega (arith, inv .counted))))
+    (start t .pre .0, (start t .pre .1 .0, (inv .walk, omega (arith, inv .counted))))
 
 add-k : tie.Need-add-k Inv-loop μ-loop
 add-k c =
-    let s = start (c .before .before .before .before) in
+    let s = start (c .before .before) in
     omega (arith, s .pre .0 .few, bounds-few (s .pre .0) (s .pre .1 .0))
 
 write-row-requires-2 : tie.Need-write-row-requires-2 Inv-loop μ-loop
@@ -58,9 +55,8 @@ loop-again : tie.Need-loop-again Inv-loop μ-loop
 loop-again c =
     let w = c .before .before in
     let n = w .before .before in
-    let t = n .before .before .before .before in (
-      rw add-one (rows-next (t .loop .inv .0) (omega arith)
-          (rw (n .before .read-row .ensures) at (n .next-row .ensures)) (rw add-one at (w .write-row2 .ensures))),
+    let t = n .before .before in (
+      rw add-one (rows-next (t .loop .inv .0) (omega arith) (n .next-row .ensures) (rw add-one at (w .write-row2 .ensures))),
       w .write-row2 .ensures .same ∙ t .loop .inv .1,
     )
 
@@ -80,7 +76,6 @@ fill-spec =
     first-row-requires
     write-row-requires
     loop-holds
-    read-row-requires
     next-row-requires
     add-k
     write-row-requires-2

@@ -1,37 +1,59 @@
--- Each sum moves with the lows and highs passed, since no bound lies between. Assumes nothing.
+-- The sums at the mark are those at the row and what they rise by, and no sum over shares is great. Assumes nothing.
 use borrow.Author.Needs.{needs}
-use mathlib.Core.Path.{_≡_, refl}
-use Prim.Native.Nat.{ℕ, _+_, _*_}
-use Rattle.model.specs.Shares.{sumOf}
-use Rattle.model.specs.Levels.{clamped}
-use Rattle.probe.specs.Inner.Tables.{Movable, itself, square}
-use Rattle.probe.specs.Laws.Tables.{Small, movable, moved-sum, small-itself, small-square}
+use native.Mathlib.Nat.{mul-le-mul}
+use native.Mathlib.Omega.{arith}
+use mathlib.Core.Path.{refl}
+use Prim.Native.Nat.{ℕ, _+_, _-_, _*_, _≤_}
+use lib.ListN.{length}
+use Rattle.model.specs.Shares.{greatestShare, mostUnits}
+use Rattle.probe.specs.Inner.Tables.{SpanTo, greatestPart}
+use Rattle.probe.specs.Laws.Tables.{clamped-small, small-itself, small-square, rise, rises-more, total-risen, squares-risen}
 use Rattle.probe.proofs.table.row_at.Statement.{statement}
 use Rattle.probe.proofs.table.row_at.Tie as tie
 
--- each sum of the row may be moved to the mark, and is then the sum there
-module _ (s : tie.Start) (f : ℕ → ℕ) {stored : ℕ} (held : stored ≡ sumOf f (clamped (s .args .lows .now) (s .args .highs .now) (s .args .row .mark))) where
-  may : Small f → Movable stored (s .args .row .lows) (s .args .row .highs) (f (s .args .row .mark)) (f (s .args .mark))
-  may small = movable (s .pre .1 .1 .0) f held (s .pre .0) (s .pre .1 .0 .fewLows) (s .pre .1 .0 .fewHighs) (s .pre .1 .1 .1) small
+module _ (s : tie.Start) where
+  abbrev step : ℕ
+  step = s .args .mark - s .args .row .mark
 
-  is : (r : ℕ) → r + (s .args .row .lows * f (s .args .row .mark) + s .args .row .highs * f (s .args .mark))
-      ≡ stored + (s .args .row .lows * f (s .args .mark) + s .args .row .highs * f (s .args .row .mark))
-      → r ≡ sumOf f (clamped (s .args .lows .now) (s .args .highs .now) (s .args .mark))
-  is = moved-sum (s .pre .1 .1 .0) f held
+  abbrev span : SpanTo (s .args .lows .now) (s .args .highs .now) (s .args .row) (s .args .mark)
+  span = s .pre .1 .1 .0
 
-moved-requires : tie.Need-moved-requires
-moved-requires c κs = may (c .before .before) itself (c .before .before .pre .1 .0 .totals) small-itself
+  -- what so many bounds passed move in a step
+  few-moved : (a : ℕ) → a ≤ length (s .args .lows .now) → a * step ≤ mostUnits * greatestShare
+  few-moved a few =
+      let units : a ≤ mostUnits = omega (arith, s .pre .0 .few) in
+      let share : step ≤ greatestShare = omega (arith, s .pre .1 .1 .1) in
+      mul-le-mul units share
 
-square-requires : tie.Need-square-requires
-square-requires c κs = search needs
+  total-small : s .args .row .total + rise span ≤ mostUnits * greatestPart
+  total-small = omega (arith, s .pre .1 .0 .totals, total-risen span, clamped-small (s .pre .0 .ranges) small-itself (s .args .mark), s .pre .0 .few)
 
-square-requires-2 : tie.Need-square-requires-2
-square-requires-2 c κs = search needs
+  squares-small : s .args .row .squares + rise span * (s .args .row .mark + s .args .mark) ≤ mostUnits * greatestPart
+  squares-small = omega (arith, s .pre .1 .0 .squares, squares-risen span, clamped-small (s .pre .0 .ranges) small-square (s .args .mark), s .pre .0 .few)
 
-moved-requires-2 : tie.Need-moved-requires-2
-moved-requires-2 c κs =
-    let s = c .before .before .before .before .before in
-    rw (c .square2 .ensures, c .before .square .ensures) (may s square (s .pre .1 .0 .squares) small-square)
+sub-step : tie.Need-sub-step
+sub-step c = search needs
+
+mul-more : tie.Need-mul-more
+mul-more c = let s = c .before .before in omega (arith, few-moved s _ (s .pre .1 .0 .fewLows))
+
+mul-more-2 : tie.Need-mul-more-2
+mul-more-2 c = let s = c .before .before .before in omega (arith, few-moved s _ (s .pre .1 .0 .fewHighs))
+
+sub-more : tie.Need-sub-more
+sub-more c = rises-more (span (c .before .before .before))
+
+add-total : tie.Need-add-total
+add-total c = omega (arith, total-small (c .before .before .before .before))
+
+add-squares : tie.Need-add-squares
+add-squares c = search needs
+
+mul-squares : tie.Need-mul-squares
+mul-squares c = omega (arith, squares-small (c .before .before .before .before .before))
+
+add-squares-2 : tie.Need-add-squares-2
+add-squares-2 c = omega (arith, squares-small (c .before .before .before .before .before .before))
 
 returns : tie.Need-returns
 returns c =
@@ -39,9 +61,8 @@ returns c =
     record {
       sums = record {
         share = s .pre .1 .1 .1;
-        totals = is s itself (s .pre .1 .0 .totals) _ (c .before .before .before .moved .ensures);
-        squares = is s square (s .pre .1 .0 .squares) _
-            (rw (c .before .square2 .ensures, c .before .before .square .ensures) at (c .moved2 .ensures));
+        totals = rw (s .pre .1 .0 .totals) (total-risen (span s));
+        squares = rw (s .pre .1 .0 .squares) (squares-risen (span s));
         fewLows = s .pre .1 .0 .fewLows;
         fewHighs = s .pre .1 .0 .fewHighs;
       };
@@ -54,8 +75,12 @@ pub row-at-spec : {M : Type 1} → statement M
 row-at-spec =
     tie.close
     (tie.spec
-    moved-requires
-    square-requires
-    square-requires-2
-    moved-requires-2
+    sub-step
+    mul-more
+    mul-more-2
+    sub-more
+    add-total
+    add-squares
+    mul-squares
+    add-squares-2
     returns)
