@@ -8,14 +8,17 @@ use model::levels::clamp;
 use model::numbers::apart;
 use probe::pinned::Trial;
 use probe::pinned::into_reach;
+use probe::pinned::last_within;
 use probe::probing::try_value;
 use probe::terms::Terms;
+ghost use mathlib.Core.Bool.{true};
+ghost use mathlib.Core.Path.{_≡_};
 ghost use Prim.Native.Nat.{_<_};
 ghost use Rattle.model.specs.Figures.{apart};
 ghost use Rattle.model.specs.Plans.{taken};
 ghost use Rattle.probe.specs.Inner.Terms.{Termed};
 ghost use Rattle.narrow.specs.Inner.Edges.{Amid, Edge, Approach, Search};
-ghost use Rattle.narrow.specs.Inner.Known.{SharedHolds, RowOf, EdgeFound, EndFound};
+ghost use Rattle.narrow.specs.Inner.Known.{SharedHolds, RowOf, EdgeFound, WithRow, EndFound};
 
 // How many of Newton's steps an end gets before bisection takes over, which bounds the search.
 const NEWTON_STEPS: u64 = 8;
@@ -119,6 +122,42 @@ fn edge(
     found
 }
 
+// A member and the values that a search for an end of its range came to.
+struct Searched {
+    member: usize,
+    found: Bracket,
+}
+
+// The same values with the row of the inner one: where that is the share itself, no trial has told it.
+fn with_row(
+    lows: &[u64],
+    highs: &[u64],
+    table: &[u64],
+    question: Question,
+    terms: Terms,
+    searched: Searched,
+) -> Bracket
+    requires { ⌜ Search (now lows) (now highs) (now table) (question .total) (question .limits) (searched .member) (searched .found .outer) (searched .found .inner) ⌝ }
+    requires { ⌜ Termed (now lows) (now highs) (now table) (question .total) (question .limits) terms ⌝ }
+    requires { ⌜ (searched .found .tried ≡ true → RowOf (now lows) (now highs) (now table) (question .total) (searched .member) (searched .found .inner) (searched .found .near)) ⌝ }
+    ensures { λ r. ⌜ WithRow (now (lows .entry)) (now (highs .entry)) (now (table .entry)) (question .total) (searched .member) (searched .found) r ⌝ }
+{
+    let mut found = searched.found;
+    if found.tried {
+        return found;
+    }
+    let member = searched.member;
+    let trial = Trial {
+        low: lows[member],
+        high: highs[member],
+        value: found.inner,
+        row: found.far,
+    };
+    found.near = last_within(table, terms.last, trial, question.total);
+    found.tried = true;
+    found
+}
+
 // The same, with what is known afterwards.
 fn edge_noted(
     lows: &[u64],
@@ -135,8 +174,10 @@ fn edge_noted(
     ensures { λ r. ⌜ Edge (taken (now (lows .entry)) (now (highs .entry)) (question .total) (question .limits) (gap .member)) (gap .outer) (gap .inner) (r .value) ⌝ }
     ensures { λ r. ⌜ SharedHolds (now (lows .entry)) (now (highs .entry)) (question .total) (question .limits) (r .shared) ⌝ }
 {
-    let found = edge(lows, highs, table, question, terms, gap);
     let member = gap.member;
+    let found = edge(lows, highs, table, question, terms, gap);
+    let searched = Searched { member, found };
+    let found = with_row(lows, highs, table, question, terms, searched);
     let low = lows[member];
     let high = highs[member];
     let was = gap.shared;

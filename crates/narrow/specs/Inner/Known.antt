@@ -91,6 +91,13 @@ pub record EdgeFound (lows highs table : List ℕ) (total : ℕ) (limits : Limit
   pub bracketed : Bracketed lows highs table total limits i outside inside found
   pub near : apart (found .outer) (found .inner) ≤ 1
 
+-- the same values, and the row of the inner one
+pub record WithRow (lows highs table : List ℕ) (total i : ℕ) (found r : Bracket) : Type 0 where
+  pub inner : r .inner ≡ found .inner
+  pub outer : r .outer ≡ found .outer
+  pub far : r .far ≡ found .far
+  pub near : r .tried ≡ true → RowOf lows highs table total i (found .inner) (r .near)
+
 -- how far values of member i are taken, and what is known then
 pub record EndFound (lows highs : List ℕ) (total : ℕ) (limits : Limits) (i end share : ℕ) (r : End) : Type 0 where
   pub reaches : Reaches (taken lows highs total limits i) end share (r .value)

@@ -22,7 +22,7 @@ use Rattle.narrow.specs.declared.known.Sharing.{Sharing}
 use Rattle.narrow.specs.declared.known.Bracket.{Bracket}
 use Rattle.narrow.specs.Inner.Tabled.{Tabled}
 use Rattle.narrow.specs.Inner.Edges.{Edge, Reaches, Approach}
-use Rattle.narrow.specs.Inner.Known.{Outcomes, SharedHolds, SharingHolds, NothingKnown, EndKnown, EdgeKnown, SeenTo, Serves, Noted, RowOf, EdgeFound}
+use Rattle.narrow.specs.Inner.Known.{Outcomes, SharedHolds, SharingHolds, NothingKnown, EndKnown, EdgeKnown, SeenTo, Serves, Noted, RowOf, EdgeFound, WithRow}
 use Rattle.narrow.specs.Laws.Taken.{taken-between}
 
 -- where no high is so great, nothing is claimed
@@ -141,6 +141,20 @@ module _ {lows highs table : List ℕ} {total : ℕ} {limits : Limits} (tabled :
 pub found-edge : {lows highs table : List ℕ} {total : ℕ} {limits : Limits} {i outside inside : ℕ} {found : Bracket}
     → EdgeFound lows highs table total limits i outside inside found → Edge (taken lows highs total limits i) outside inside (found .inner)
 found-edge {found = found} over = record { outer = found .outer; straddle = over .bracketed .straddle; near = over .near }
+
+-- and so does it with the row of its inner value
+pub found-with-row : {lows highs table : List ℕ} {total : ℕ} {limits : Limits} {i outside inside : ℕ} {found r : Bracket}
+    → EdgeFound lows highs table total limits i outside inside found → WithRow lows highs table total i found r
+    → EdgeFound lows highs table total limits i outside inside r
+found-with-row over placed = record {
+  bracketed = record {
+    straddle = rw (placed .inner, placed .outer) (over .bracketed .straddle);
+    search = rw (placed .inner, placed .outer) (over .bracketed .search);
+    outerRow = rw (placed .outer, placed .far) (over .bracketed .outerRow);
+    innerRow = λ tried. rw (placed .inner) (placed .near tried);
+  };
+  near = rw (placed .inner, placed .outer) (over .near);
+}
 
 -- which serves others
 pub found-known : {lows highs table : List ℕ} {total : ℕ} {limits : Limits} {i outside inside : ℕ} {found : Bracket} {was r : Shared}
