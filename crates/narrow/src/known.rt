@@ -6,7 +6,8 @@ ghost use mathlib.Core.Bool.{true};
 ghost use mathlib.Core.Path.{_≡_};
 ghost use Prim.Native.Nat.{_+_, _*_, _<_, _≤_, min, max};
 ghost use lib.ListN.{length};
-ghost use Rattle.narrow.specs.Inner.Known.{NothingKnown, EndKnown, EdgeKnown, SeenTo, Noted};
+ghost use Rattle.model.specs.Shares.{greatestShare};
+ghost use Rattle.narrow.specs.Inner.Known.{EndKnown, EdgeKnown, SeenTo, Noted};
 
 // What is known of every member with low at most under and high at least over: some plan gives it inner and, where outer
 // is another value, the one next to inner, none gives it outer.
@@ -17,25 +18,15 @@ pub(crate) struct Shared {
     pub(crate) outer: u64,
 }
 
-// What is known on the way to lows, and on the way to highs.
-pub(crate) struct Sharing {
-    pub(crate) down: Shared,
-    pub(crate) up: Shared,
-}
-
 // Nothing is known of any member: no high is so great.
-pub(crate) fn nothing_known() -> Sharing
-    ensures { λ r. ⌜ NothingKnown r ⌝ }
+pub(crate) fn nothing_known() -> Shared
+    ensures { λ r. ⌜ greatestShare < r .over ⌝ }
 {
-    let nothing = Shared {
+    Shared {
         under: 0,
         over: Share::GREATEST + 1,
         inner: 0,
         outer: 0,
-    };
-    Sharing {
-        down: nothing,
-        up: nothing,
     }
 }
 

@@ -1,131 +1,113 @@
-// Narrowing the range of one member.
-use crate::ends::End;
+// Narrowing the ranges of a group's members, one after another.
 use crate::ends::search;
-use crate::known::Sharing;
 use crate::known::Way;
+use crate::known::nothing_known;
 use crate::known::seen_at;
 use model::Question;
+use model::levels::clamp;
+use model::levels::extra;
+use probe::probing::Levelled;
 use probe::terms::Terms;
-ghost use Rattle.probe.specs.Inner.Terms.{Termed};
-ghost use Rattle.narrow.specs.Inner.Edges.{Planned};
-ghost use Rattle.narrow.specs.Inner.Known.{SharingHolds};
-ghost use Rattle.narrow.specs.Inner.Members.{LowFound, HighFound, MemberNarrowed};
-ghost use Rattle.narrow.specs.Inner.Tabled.{Tabled};
+ghost use mathlib.Core.Path.{_≡_};
+ghost use lib.ListN.{length};
+ghost use Rattle.model.specs.Plans.{narrowedLows, narrowedHighs};
+ghost use Rattle.narrow.specs.Inner.Members.{Narrowable};
 
-// A member, a share that some plan gives it, a row to look at first, and what is known of others.
-pub(crate) struct Place {
-    pub(crate) member: usize,
-    pub(crate) share: u64,
-    pub(crate) row: usize,
-    pub(crate) sharing: Sharing,
+// What a turn asks of every member: the question, its terms, and where the levelled shares are.
+pub(crate) struct Asked {
+    pub(crate) question: Question,
+    pub(crate) terms: Terms,
+    pub(crate) levelled: Levelled,
 }
 
-// A member's narrowed range, and what is known after it was found.
-pub(crate) struct Ends {
-    pub(crate) low: u64,
-    pub(crate) high: u64,
-    pub(crate) sharing: Sharing,
-}
-
-// The least value that some plan gives a member: seen, or searched.
-fn low_end(
+// Writes the lows of the narrowed ranges of a group that has a plan over starts.
+pub(crate) fn narrow_lows(
     lows: &[u64],
     highs: &[u64],
     table: &[u64],
-    question: Question,
-    terms: Terms,
-    place: Place,
-) -> End
-    requires { ⌜ Planned (now lows) (now highs) (question .total) (question .limits) (place .member) (place .share) ⌝ }
-    requires { ⌜ Tabled (now lows) (now highs) (question .total) (now table) ⌝ }
-    requires { ⌜ Termed (now lows) (now highs) (now table) (question .total) (question .limits) terms ⌝ }
-    requires { ⌜ SharingHolds (now lows) (now highs) (question .total) (question .limits) (place .sharing) ⌝ }
-    ensures { λ r. ⌜ LowFound (now (lows .entry)) (now (highs .entry)) (question .total) (question .limits) (place .member) r ⌝ }
+    asked: Asked,
+    starts: &mut [u64],
+)
+    requires { ⌜ Narrowable (now lows) (now highs) (now table) asked ⌝ }
+    requires { ⌜ length (now starts) ≡ length (now lows) ⌝ }
+    ensures { λ _. ⌜ now (starts .exit) ≡ narrowedLows (now (lows .entry)) (now (highs .entry)) (asked .question .total) (asked .question .limits) ⌝ }
 {
-    let member = place.member;
-    let share = place.share;
-    let row = place.row;
-    let shared = place.sharing.down;
-    let low = lows[member];
-    let high = highs[member];
-    let way = Way {
-        member,
-        share,
-        end: low,
-        row,
-        shared,
-    };
-    let seen = seen_at(low, high, way);
-    if seen.known {
-        return End {
-            value: seen.value,
+    let question = asked.question;
+    let terms = asked.terms;
+    let row = asked.levelled.row;
+    let v = asked.levelled.level;
+    let mut left = asked.levelled.over;
+    let mut shared = nothing_known();
+    let mut next: usize = 0;
+    while next < lows.len() {
+        let member = next;
+        next += 1;
+        let low = lows[member];
+        let high = highs[member];
+        let more = extra(low, high, v, left);
+        let share = clamp(low, high, v) + more;
+        left -= more;
+        let way = Way {
+            member,
+            share,
+            end: low,
+            row,
             shared,
         };
+        let seen = seen_at(low, high, way);
+        // What only a search needs is handed over there alone.
+        if seen.known {
+            starts[member] = seen.value;
+        } else {
+            let end = search(lows, highs, table, question, terms, way);
+            starts[member] = end.value;
+            shared = end.shared;
+        }
     }
-    search(lows, highs, table, question, terms, way)
 }
 
-// The greatest value that some plan gives a member: seen, or searched.
-fn high_end(
+// Writes the highs of the narrowed ranges of a group that has a plan over stops.
+pub(crate) fn narrow_highs(
     lows: &[u64],
     highs: &[u64],
     table: &[u64],
-    question: Question,
-    terms: Terms,
-    place: Place,
-) -> End
-    requires { ⌜ Planned (now lows) (now highs) (question .total) (question .limits) (place .member) (place .share) ⌝ }
-    requires { ⌜ Tabled (now lows) (now highs) (question .total) (now table) ⌝ }
-    requires { ⌜ Termed (now lows) (now highs) (now table) (question .total) (question .limits) terms ⌝ }
-    requires { ⌜ SharingHolds (now lows) (now highs) (question .total) (question .limits) (place .sharing) ⌝ }
-    ensures { λ r. ⌜ HighFound (now (lows .entry)) (now (highs .entry)) (question .total) (question .limits) (place .member) r ⌝ }
+    asked: Asked,
+    stops: &mut [u64],
+)
+    requires { ⌜ Narrowable (now lows) (now highs) (now table) asked ⌝ }
+    requires { ⌜ length (now stops) ≡ length (now lows) ⌝ }
+    ensures { λ _. ⌜ now (stops .exit) ≡ narrowedHighs (now (lows .entry)) (now (highs .entry)) (asked .question .total) (asked .question .limits) ⌝ }
 {
-    let member = place.member;
-    let share = place.share;
-    let row = place.row;
-    let shared = place.sharing.up;
-    let low = lows[member];
-    let high = highs[member];
-    let way = Way {
-        member,
-        share,
-        end: high,
-        row,
-        shared,
-    };
-    let seen = seen_at(low, high, way);
-    if seen.known {
-        return End {
-            value: seen.value,
+    let question = asked.question;
+    let terms = asked.terms;
+    let row = asked.levelled.row;
+    let v = asked.levelled.level;
+    let mut left = asked.levelled.over;
+    let mut shared = nothing_known();
+    let mut next: usize = 0;
+    while next < lows.len() {
+        let member = next;
+        next += 1;
+        let low = lows[member];
+        let high = highs[member];
+        let more = extra(low, high, v, left);
+        let share = clamp(low, high, v) + more;
+        left -= more;
+        let way = Way {
+            member,
+            share,
+            end: high,
+            row,
             shared,
         };
-    }
-    search(lows, highs, table, question, terms, way)
-}
-
-// The narrowed range of a member of a group that has a plan.
-pub(crate) fn narrow_member(
-    lows: &[u64],
-    highs: &[u64],
-    table: &[u64],
-    question: Question,
-    terms: Terms,
-    place: Place,
-) -> Ends
-    requires { ⌜ Planned (now lows) (now highs) (question .total) (question .limits) (place .member) (place .share) ⌝ }
-    requires { ⌜ Tabled (now lows) (now highs) (question .total) (now table) ⌝ }
-    requires { ⌜ Termed (now lows) (now highs) (now table) (question .total) (question .limits) terms ⌝ }
-    requires { ⌜ SharingHolds (now lows) (now highs) (question .total) (question .limits) (place .sharing) ⌝ }
-    ensures { λ r. ⌜ MemberNarrowed (now (lows .entry)) (now (highs .entry)) (question .total) (question .limits) (place .member) r ⌝ }
-{
-    let start = low_end(lows, highs, table, question, terms, place);
-    let stop = high_end(lows, highs, table, question, terms, place);
-    let down = start.shared;
-    let up = stop.shared;
-    let sharing = Sharing { down, up };
-    Ends {
-        low: start.value,
-        high: stop.value,
-        sharing,
+        let seen = seen_at(low, high, way);
+        // What only a search needs is handed over there alone.
+        if seen.known {
+            stops[member] = seen.value;
+        } else {
+            let end = search(lows, highs, table, question, terms, way);
+            stops[member] = end.value;
+            shared = end.shared;
+        }
     }
 }

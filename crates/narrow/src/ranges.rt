@@ -1,12 +1,10 @@
 // Narrowing a group's ranges: a value stays exactly if the group pinned to it has a plan.
-use crate::known::nothing_known;
-use crate::members::Place;
-use crate::members::narrow_member;
+use crate::members::Asked;
+use crate::members::narrow_highs;
+use crate::members::narrow_lows;
 use model::MOST_UNITS;
 use model::Question;
 use model::Turn;
-use model::levels::clamp;
-use model::levels::extra;
 use model::lists::copy;
 use model::running::pack;
 use model::running::running_count;
@@ -46,29 +44,13 @@ fn narrow_on(
     if !levelled.planned {
         return Turn::NoPlan(12);
     }
-    let row = levelled.row;
-    let v = levelled.level;
-    let mut left = levelled.over;
-    let mut sharing = nothing_known();
-    let mut member: usize = 0;
-    while member < lows.len() {
-        let low = lows[member];
-        let high = highs[member];
-        let more = extra(low, high, v, left);
-        let share = clamp(low, high, v) + more;
-        left -= more;
-        let place = Place {
-            member,
-            share,
-            row,
-            sharing,
-        };
-        let ends = narrow_member(lows, highs, table, question, terms, place);
-        starts[member] = ends.low;
-        stops[member] = ends.high;
-        sharing = ends.sharing;
-        member += 1;
-    }
+    let asked = Asked {
+        question,
+        terms,
+        levelled,
+    };
+    narrow_lows(lows, highs, table, asked, starts);
+    narrow_highs(lows, highs, table, asked, stops);
     Turn::Narrowed
 }
 

@@ -12,7 +12,6 @@ use Rattle.model.specs.declared.Limits.{Limits}
 use Rattle.probe.specs.Inner.Rows.{rowAt, lastRow}
 use Rattle.probe.specs.Inner.Probes.{LastWithin}
 use Rattle.narrow.specs.declared.known.Shared.{Shared}
-use Rattle.narrow.specs.declared.known.Sharing.{Sharing}
 use Rattle.narrow.specs.declared.known.Bracket.{Bracket}
 use Rattle.narrow.specs.declared.ends.End.{End}
 use Rattle.narrow.specs.Inner.Edges.{Straddle, Reaches, Search}
@@ -28,16 +27,6 @@ pub record Outcomes (test : ℕ → Bool) (inner outer : ℕ) : Type 0 where
 pub record SharedHolds (lows highs : List ℕ) (total : ℕ) (limits : Limits) (shared : Shared) : Type 0 where
   pub of : (j : ℕ) → j < length lows → getD lows j 0 ≤ shared .under → shared .over ≤ getD highs j 0
       → Outcomes (taken lows highs total limits j) (shared .inner) (shared .outer)
-
--- both on the way to lows and to highs
-pub record SharingHolds (lows highs : List ℕ) (total : ℕ) (limits : Limits) (sharing : Sharing) : Type 0 where
-  pub downward : SharedHolds lows highs total limits (sharing .down)
-  pub upward : SharedHolds lows highs total limits (sharing .up)
-
--- no member has so great a high
-pub record NothingKnown (sharing : Sharing) : Type 0 where
-  pub downward : greatestShare < sharing .down .over
-  pub upward : greatestShare < sharing .up .over
 
 -- the range is such a one, and the end lies between the share and inner
 pub record EndKnown (low high share end : ℕ) (shared : Shared) : Type 0 where

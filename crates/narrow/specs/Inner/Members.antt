@@ -1,25 +1,16 @@
--- The narrowed range of one member. Assumes nothing.
+-- What the loops over the members of a group go on. Assumes nothing.
 use Prim.Native.Nat.{ℕ}
 use mathlib.Core.List.{List}
-use mathlib.Core.Path.{_≡_}
-use Rattle.model.specs.Plans.{narrowedLow, narrowedHigh}
-use Rattle.model.specs.declared.Limits.{Limits}
-use Rattle.narrow.specs.declared.ends.End.{End}
-use Rattle.narrow.specs.declared.members.Ends.{Ends}
-use Rattle.narrow.specs.Inner.Known.{SharedHolds, SharingHolds}
+use Rattle.probe.specs.Inner.Pinned.{Reached}
+use Rattle.probe.specs.Inner.Terms.{Termed}
+use Rattle.narrow.specs.declared.members.Asked.{Asked}
+use Rattle.narrow.specs.Inner.Tabled.{Tabled, HasPlan}
 
--- the low of member i's narrowed range, and what is known then
-pub record LowFound (lows highs : List ℕ) (total : ℕ) (limits : Limits) (i : ℕ) (r : End) : Type 0 where
-  pub is : r .value ≡ narrowedLow lows highs total limits i
-  pub known : SharedHolds lows highs total limits (r .shared)
-
--- and the high
-pub record HighFound (lows highs : List ℕ) (total : ℕ) (limits : Limits) (i : ℕ) (r : End) : Type 0 where
-  pub is : r .value ≡ narrowedHigh lows highs total limits i
-  pub known : SharedHolds lows highs total limits (r .shared)
-
--- both ends of member i's narrowed range, and what is known then
-pub record MemberNarrowed (lows highs : List ℕ) (total : ℕ) (limits : Limits) (i : ℕ) (r : Ends) : Type 0 where
-  pub lowIs : r .low ≡ narrowedLow lows highs total limits i
-  pub highIs : r .high ≡ narrowedHigh lows highs total limits i
-  pub known : SharingHolds lows highs total limits (r .sharing)
+-- a group that has a plan, with its table, its terms and the level that its total reaches
+pub record Narrowable (lows highs table : List ℕ) (asked : Asked) : Type 0 where
+  pub has : HasPlan lows highs (asked .question .total) (asked .question .limits)
+  pub tabled : Tabled lows highs (asked .question .total) table
+  pub termed : Termed lows highs table (asked .question .total) (asked .question .limits) (asked .terms)
+  pub mark : ℕ
+  pub moving : ℕ
+  pub reached : Reached lows highs (asked .question .total) mark moving (asked .levelled .level) (asked .levelled .over)

@@ -18,21 +18,16 @@ use Rattle.probe.specs.Inner.Tables.{Breakpoints}
 use Rattle.probe.specs.Laws.Alike.{Covers, alike}
 use Rattle.probe.specs.Laws.Pinned.{pinned}
 use Rattle.narrow.specs.declared.known.Shared.{Shared}
-use Rattle.narrow.specs.declared.known.Sharing.{Sharing}
 use Rattle.narrow.specs.declared.known.Bracket.{Bracket}
 use Rattle.narrow.specs.Inner.Tabled.{Tabled}
 use Rattle.narrow.specs.Inner.Edges.{Edge, Reaches, Approach}
-use Rattle.narrow.specs.Inner.Known.{Outcomes, SharedHolds, SharingHolds, NothingKnown, EndKnown, EdgeKnown, SeenTo, Serves, Noted, RowOf, EdgeFound, WithRow}
+use Rattle.narrow.specs.Inner.Known.{Outcomes, SharedHolds, EndKnown, EdgeKnown, SeenTo, Serves, Noted, RowOf, EdgeFound, WithRow}
 use Rattle.narrow.specs.Laws.Taken.{taken-between}
 
 -- where no high is so great, nothing is claimed
-none-reach : {lows highs : List ℕ} {total : ℕ} {limits : Limits} {shared : Shared} → Ranges lows highs → greatestShare < shared .over
+pub nothing-known : {lows highs : List ℕ} {total : ℕ} {limits : Limits} {shared : Shared} → Ranges lows highs → greatestShare < shared .over
     → SharedHolds lows highs total limits shared
-none-reach ranges past = record { of = λ j below under over. absurd (omega (arith, ranges-at ranges j below)) }
-
-pub nothing-known : {lows highs : List ℕ} {total : ℕ} {limits : Limits} {sharing : Sharing} → Ranges lows highs → NothingKnown sharing
-    → SharingHolds lows highs total limits sharing
-nothing-known ranges none = record { downward = none-reach ranges (none .downward); upward = none-reach ranges (none .upward) }
+nothing-known ranges past = record { of = λ j below under over. absurd (omega (arith, ranges-at ranges j below)) }
 
 module _ {lows highs table : List ℕ} {total : ℕ} {limits : Limits} {i end share : ℕ} (way : Approach lows highs table total limits i end share)
     {shared : Shared} (known : SharedHolds lows highs total limits shared) where

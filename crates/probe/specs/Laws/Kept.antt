@@ -76,16 +76,16 @@ kept-several (Ranges.also {l} {h} p q r) =
     ]
 
 -- the numbers of the first i members, as far as these are kept, are at the front of a list
-pub record Gathered (lows highs xs numbers : List ℕ) (count i : ℕ) : Type 0 where
+pub record Sifted (lows highs xs numbers : List ℕ) (count i : ℕ) : Type 0 where
   pub size : length numbers ≡ length lows
   pub few : count ≤ i
   pub front : take count numbers ++ several (drop i lows) (drop i highs) (drop i xs) ≡ several lows highs xs
 
 -- none is there yet
-pub gathered-none : (lows highs xs numbers : List ℕ) → length numbers ≡ length lows → Gathered lows highs xs numbers 0 0
-gathered-none lows highs xs numbers sizes = record { size = sizes; few = omega arith; front = refl }
+pub sifted-none : (lows highs xs numbers : List ℕ) → length numbers ≡ length lows → Sifted lows highs xs numbers 0 0
+sifted-none lows highs xs numbers sizes = record { size = sizes; few = omega arith; front = refl }
 
-module _ {lows highs xs numbers : List ℕ} {count i : ℕ} (held : Gathered lows highs xs numbers count i)
+module _ {lows highs xs numbers : List ℕ} {count i : ℕ} (held : Sifted lows highs xs numbers count i)
     (p : i < length lows) (q : i < length highs) (s : i < length xs) where
   -- member i ahead of those after it
   ahead : several (drop i lows) (drop i highs) (drop i xs)
@@ -93,12 +93,12 @@ module _ {lows highs xs numbers : List ℕ} {count i : ℕ} (held : Gathered low
   ahead = rw (drop-cons lows i 0 p, drop-cons highs i 0 q, drop-cons xs i 0 s)
 
   -- member i is passed
-  pub gathered-step : (more : ℕ) → more ≡ pick (ltb (getD lows i 0) (getD highs i 0)) 1 0
-      → Gathered lows highs xs (set numbers count (getD xs i 0)) (count + more) (i + 1)
+  pub sifted-step : (more : ℕ) → more ≡ pick (ltb (getD lows i 0) (getD highs i 0)) 1 0
+      → Sifted lows highs xs (set numbers count (getD xs i 0)) (count + more) (i + 1)
   unfolding several
-  gathered-step more is = by (ltb (getD lows i 0) (getD highs i 0)) refl
+  sifted-step more is = by (ltb (getD lows i 0) (getD highs i 0)) refl
     where
-      by : (b : Bool) → ltb (getD lows i 0) (getD highs i 0) ≡ b → Gathered lows highs xs (set numbers count (getD xs i 0)) (count + more) (i + 1)
+      by : (b : Bool) → ltb (getD lows i 0) (getD highs i 0) ≡ b → Sifted lows highs xs (set numbers count (getD xs i 0)) (count + more) (i + 1)
       by true wide =
           let one : more ≡ 1 = rw wide at is in
           record {
@@ -116,7 +116,7 @@ module _ {lows highs xs numbers : List ℕ} {count i : ℕ} (held : Gathered low
           }
 
 -- all are passed
-pub gathered-all : {lows highs xs numbers : List ℕ} {count i : ℕ} → length lows ≤ i → Gathered lows highs xs numbers count i
+pub sifted-all : {lows highs xs numbers : List ℕ} {count i : ℕ} → length lows ≤ i → Sifted lows highs xs numbers count i
     → take count numbers ≡ several lows highs xs
 unfolding several
-gathered-all {lows} {numbers = numbers} {count = count} {i = i} end held = rw (drop-of-length-le lows {i = i} end, append-nil) at (held .front)
+sifted-all {lows} {numbers = numbers} {count = count} {i = i} end held = rw (drop-of-length-le lows {i = i} end, append-nil) at (held .front)

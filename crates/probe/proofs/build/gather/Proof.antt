@@ -3,13 +3,13 @@ use borrow.Author.Needs.{needs}
 use native.Mathlib.Omega.{arith}
 use Prim.Native.Nat.{_+_, _-_, _≤_}
 use lib.ListN.{length, getD, set}
-use Rattle.probe.specs.Laws.Kept.{Gathered, gathered-none, gathered-step, gathered-all, kept-several}
+use Rattle.probe.specs.Laws.Kept.{Sifted, sifted-none, sifted-step, sifted-all, kept-several}
 use Rattle.probe.proofs.build.gather.Statement.{statement}
 use Rattle.probe.proofs.build.gather.Tie as tie
 
 abbrev Inv-loop : tie.InvT-loop
 Inv-loop lows highs starts₀ stops₀ count₀ i₀ starts stops count i =
-    (i ≤ length lows) × Gathered lows highs lows starts count i × Gathered lows highs highs stops count i
+    (i ≤ length lows) × Sifted lows highs lows starts count i × Sifted lows highs highs stops count i
 
 abbrev μ-loop : tie.MeasureT-loop
 μ-loop lows highs starts₀ stops₀ count₀ i₀ starts stops count i = length lows - i
@@ -21,7 +21,7 @@ start t = t .before .before .before .before .before
 loop-holds : tie.Need-loop-holds Inv-loop μ-loop
 loop-holds c =
     let s = c .before .before .before .before in
-    (omega arith, gathered-none _ _ _ _ (s .pre .1 .0), gathered-none _ _ _ _ (s .pre .1 .1))
+    (omega arith, sifted-none _ _ _ _ (s .pre .1 .0), sifted-none _ _ _ _ (s .pre .1 .1))
 
 mul-starts : tie.Need-mul-starts Inv-loop μ-loop
 mul-starts c = search needs
@@ -70,13 +70,13 @@ module _ (c : tie.After-one-if-several Inv-loop μ-loop) where
   abbrev from : tie.Start Inv-loop μ-loop
   from = start turn
 
-  next-starts : Gathered (from .args .lows .now) (from .args .highs .now) (from .args .lows .now)
+  next-starts : Sifted (from .args .lows .now) (from .args .highs .now) (from .args .lows .now)
       (set (turn .loop .starts) (turn .loop .count) (getD (from .args .lows .now) (turn .loop .i) 0)) (turn .loop .count + c .one-if-several .result) (turn .loop .i + 1)
-  next-starts = gathered-step (turn .loop .inv .1) (omega arith) (omega (arith, from .pre .0 .paired)) (omega arith) _ (c .one-if-several .ensures)
+  next-starts = sifted-step (turn .loop .inv .1) (omega arith) (omega (arith, from .pre .0 .paired)) (omega arith) _ (c .one-if-several .ensures)
 
-  next-stops : Gathered (from .args .lows .now) (from .args .highs .now) (from .args .highs .now)
+  next-stops : Sifted (from .args .lows .now) (from .args .highs .now) (from .args .highs .now)
       (set (turn .loop .stops) (turn .loop .count) (getD (from .args .highs .now) (turn .loop .i) 0)) (turn .loop .count + c .one-if-several .result) (turn .loop .i + 1)
-  next-stops = gathered-step (turn .loop .inv .2) (omega arith) (omega (arith, from .pre .0 .paired)) (omega (arith, from .pre .0 .paired)) _ (c .one-if-several .ensures)
+  next-stops = sifted-step (turn .loop .inv .2) (omega arith) (omega (arith, from .pre .0 .paired)) (omega (arith, from .pre .0 .paired)) _ (c .one-if-several .ensures)
 
 add-count : tie.Need-add-count Inv-loop μ-loop
 add-count c = omega (arith, next-starts c .few)
@@ -101,7 +101,7 @@ returns c =
     let inv = c .before .loop .inv in
     let ended = c .loop-test .left in (
       omega (arith, inv .1 .few),
-      rw (gathered-all ended (inv .1), gathered-all ended (inv .2)) (kept-several (start (c .before) .pre .0 .ranges)),
+      rw (sifted-all ended (inv .1), sifted-all ended (inv .2)) (kept-several (start (c .before) .pre .0 .ranges)),
     )
 
 pub gather-spec : {M : Type 1} → statement M
