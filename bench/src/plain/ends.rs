@@ -90,9 +90,9 @@ fn search(table: &Table, member: Member, end: u64, near: usize, shared: &mut Sha
             (outer, outer_row) = (trial.value, row);
         }
     }
-    if let Some(inner_row) = inner_row {
-        *shared = shared.or_found(table, member, (inner_row, outer_row), inner, true);
-    }
+    // Where only the share is left, no trial has told its row.
+    let inner_row = inner_row.unwrap_or_else(|| table.row_of(Trial { low, high, value: inner }, outer_row));
+    *shared = shared.or_found(table, member, (inner_row, outer_row), inner, true);
     inner
 }
 
