@@ -2,6 +2,7 @@
 pub mod Edges
 pub mod Ends
 pub mod Known
+pub mod Members
 pub mod Reaching
 pub mod Searches
 pub mod Tabled

@@ -10,78 +10,44 @@ use probe::probing::Levelled;
 use probe::terms::Terms;
 ghost use mathlib.Core.Path.{_≡_};
 ghost use lib.ListN.{length};
-ghost use Rattle.model.specs.Plans.{narrowedLows, narrowedHighs};
-ghost use Rattle.narrow.specs.Inner.Members.{Narrowable};
+ghost use Rattle.model.specs.Shares.{pick};
+ghost use Rattle.narrow.specs.Inner.Members.{narrowedEnds, Narrowable};
 
-// What a turn asks of every member: the question, its terms, and where the levelled shares are.
+// What a turn asks of every member: the question, its terms, where the levelled shares are, and whether highs are asked for or lows.
 pub(crate) struct Asked {
     pub(crate) question: Question,
     pub(crate) terms: Terms,
     pub(crate) levelled: Levelled,
+    pub(crate) up: bool,
 }
 
-// Writes the lows of the narrowed ranges of a group that has a plan over starts.
-pub(crate) fn narrow_lows(
-    lows: &[u64],
-    highs: &[u64],
-    table: &[u64],
-    asked: Asked,
-    starts: &mut [u64],
-)
-    requires { ⌜ Narrowable (now lows) (now highs) (now table) asked ⌝ }
-    requires { ⌜ length (now starts) ≡ length (now lows) ⌝ }
-    ensures { λ _. ⌜ now (starts .exit) ≡ narrowedLows (now (lows .entry)) (now (highs .entry)) (asked .question .total) (asked .question .limits) ⌝ }
+// The high of a range, or its low.
+fn end_of(low: u64, high: u64, up: bool) -> u64
+    ensures { λ r. ⌜ r ≡ pick up high low ⌝ }
 {
-    let question = asked.question;
-    let terms = asked.terms;
-    let row = asked.levelled.row;
-    let v = asked.levelled.level;
-    let mut left = asked.levelled.over;
-    let mut shared = nothing_known();
-    let mut next: usize = 0;
-    while next < lows.len() {
-        let member = next;
-        next += 1;
-        let low = lows[member];
-        let high = highs[member];
-        let more = extra(low, high, v, left);
-        let share = clamp(low, high, v) + more;
-        left -= more;
-        let way = Way {
-            member,
-            share,
-            end: low,
-            row,
-            shared,
-        };
-        let seen = seen_at(low, high, way);
-        // What only a search needs is handed over there alone.
-        if seen.known {
-            starts[member] = seen.value;
-        } else {
-            let end = search(lows, highs, table, question, terms, way);
-            starts[member] = end.value;
-            shared = end.shared;
-        }
+    if up {
+        return high;
     }
+    low
 }
 
-// Writes the highs of the narrowed ranges of a group that has a plan over stops.
-pub(crate) fn narrow_highs(
+// Writes the highs, or the lows, of the narrowed ranges of a group that has a plan over a list.
+pub(crate) fn narrow_ends(
     lows: &[u64],
     highs: &[u64],
     table: &[u64],
     asked: Asked,
-    stops: &mut [u64],
+    ends: &mut [u64],
 )
     requires { ⌜ Narrowable (now lows) (now highs) (now table) asked ⌝ }
-    requires { ⌜ length (now stops) ≡ length (now lows) ⌝ }
-    ensures { λ _. ⌜ now (stops .exit) ≡ narrowedHighs (now (lows .entry)) (now (highs .entry)) (asked .question .total) (asked .question .limits) ⌝ }
+    requires { ⌜ length (now ends) ≡ length (now lows) ⌝ }
+    ensures { λ _. ⌜ now (ends .exit) ≡ narrowedEnds (asked .up) (now (lows .entry)) (now (highs .entry)) (asked .question .total) (asked .question .limits) ⌝ }
 {
     let question = asked.question;
     let terms = asked.terms;
     let row = asked.levelled.row;
     let v = asked.levelled.level;
+    let up = asked.up;
     let mut left = asked.levelled.over;
     let mut shared = nothing_known();
     let mut next: usize = 0;
@@ -93,21 +59,22 @@ pub(crate) fn narrow_highs(
         let more = extra(low, high, v, left);
         let share = clamp(low, high, v) + more;
         left -= more;
+        let end = end_of(low, high, up);
         let way = Way {
             member,
             share,
-            end: high,
+            end,
             row,
             shared,
         };
         let seen = seen_at(low, high, way);
         // What only a search needs is handed over there alone.
         if seen.known {
-            stops[member] = seen.value;
+            ends[member] = seen.value;
         } else {
-            let end = search(lows, highs, table, question, terms, way);
-            stops[member] = end.value;
-            shared = end.shared;
+            let found = search(lows, highs, table, question, terms, way);
+            ends[member] = found.value;
+            shared = found.shared;
         }
     }
 }

@@ -1,7 +1,6 @@
 // Narrowing a group's ranges: a value stays exactly if the group pinned to it has a plan.
 use crate::members::Asked;
-use crate::members::narrow_highs;
-use crate::members::narrow_lows;
+use crate::members::narrow_ends;
 use model::MOST_UNITS;
 use model::Question;
 use model::Turn;
@@ -44,13 +43,20 @@ fn narrow_on(
     if !levelled.planned {
         return Turn::NoPlan(12);
     }
-    let asked = Asked {
+    let down = Asked {
         question,
         terms,
         levelled,
+        up: false,
     };
-    narrow_lows(lows, highs, table, asked, starts);
-    narrow_highs(lows, highs, table, asked, stops);
+    narrow_ends(lows, highs, table, down, starts);
+    let up = Asked {
+        question,
+        terms,
+        levelled,
+        up: true,
+    };
+    narrow_ends(lows, highs, table, up, stops);
     Turn::Narrowed
 }
 

@@ -1,10 +1,18 @@
 -- What the loops over the members of a group go on. Assumes nothing.
 use Prim.Native.Nat.{ℕ}
+use mathlib.Core.Bool.{Bool}
 use mathlib.Core.List.{List}
+use Rattle.model.specs.Plans.{narrowedLows, narrowedHighs}
+use Rattle.model.specs.Shares.{pick}
+use Rattle.model.specs.declared.Limits.{Limits}
 use Rattle.probe.specs.Inner.Pinned.{Reached}
 use Rattle.probe.specs.Inner.Terms.{Termed}
 use Rattle.narrow.specs.declared.members.Asked.{Asked}
 use Rattle.narrow.specs.Inner.Tabled.{Tabled, HasPlan}
+
+-- the highs of the narrowed ranges, or the lows
+abbrev pub narrowedEnds : Bool → List ℕ → List ℕ → ℕ → Limits → List ℕ
+narrowedEnds up lows highs total limits = pick up (narrowedHighs lows highs total limits) (narrowedLows lows highs total limits)
 
 -- a group that has a plan, with its table, its terms and the level that its total reaches
 pub record Narrowable (lows highs table : List ℕ) (asked : Asked) : Type 0 where

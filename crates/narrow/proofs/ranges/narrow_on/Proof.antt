@@ -2,6 +2,7 @@
 use borrow.Author.Needs.{needs}
 use borrow.Author.Tests.{not-true, not-false}
 use native.Mathlib.Omega.{arith}
+use mathlib.Core.Bool.{Bool, true, false}
 use mathlib.Core.Path.{_≡_, refl, sym}
 use Rattle.model.specs.Plans.{hasPlan, turnOf}
 use Rattle.model.specs.Laws.Sound.{shares-had}
@@ -52,9 +53,9 @@ module _ (c : tie.Else1) where
     found = rw (← is-planned (c .before .before)) (not-false (c .before .before .level-on .result .planned) (c .if1 .left));
   }
 
-  asked : Narrowable (begun .args .lows .now) (begun .args .highs .now) (begun .args .table .now)
-      (record { question = begun .args .question; terms = c .before .before .before .terms-of .result; levelled = c .before .before .level-on .result })
-  asked =
+  asked : (up : Bool) → Narrowable (begun .args .lows .now) (begun .args .highs .now) (begun .args .table .now)
+      (record { question = begun .args .question; terms = c .before .before .before .terms-of .result; levelled = c .before .before .level-on .result; up = up })
+  asked up =
       let l = c .before .before in
       record {
         has = has-one;
@@ -65,13 +66,13 @@ module _ (c : tie.Else1) where
         reached = level-reached (termed l) (l .level-on .ensures);
       }
 
-narrow-lows-requires : tie.Need-narrow-lows-requires
-narrow-lows-requires c κs = (asked (c .before), begun (c .before) .pre .1 .1 .0)
+narrow-ends-requires : tie.Need-narrow-ends-requires
+narrow-ends-requires c κs = (asked (c .before) false, begun (c .before) .pre .1 .1 .0)
 
-narrow-highs-requires : tie.Need-narrow-highs-requires
-narrow-highs-requires c κs =
+narrow-ends-requires-2 : tie.Need-narrow-ends-requires-2
+narrow-ends-requires-2 c κs =
     let e = c .before .before .before .before .before in
-    (asked e, begun e .pre .1 .1 .1)
+    (asked e true, begun e .pre .1 .1 .1)
 
 same-length : tie.Need-same-length
 same-length c = search needs
@@ -84,7 +85,7 @@ returns-2 c =
     let highs = c .before .before in
     let lows = highs .before .before .before .before in
     let e = lows .before .before in
-    (sym (found-turn _ _ _ _ (has-one e .found)), (lows .narrow-lows .ensures, highs .narrow-highs .ensures))
+    (sym (found-turn _ _ _ _ (has-one e .found)), (lows .narrow-ends .ensures, highs .narrow-ends2 .ensures))
 
 pub narrow-on-spec : {M : Type 1} → statement M
 narrow-on-spec =
@@ -93,8 +94,8 @@ narrow-on-spec =
     terms-of-requires
     level-on-requires
     returns
-    narrow-lows-requires
-    narrow-highs-requires
+    narrow-ends-requires
+    narrow-ends-requires-2
     same-length
     same-length-2
     returns-2)

@@ -1,33 +1,34 @@
--- The lows of the members passed are written, and the levelled shares of the others are still to come. Assumes nothing.
+-- The ends of the members passed are written, and the levelled shares of the others are still to come. Assumes nothing.
 use borrow.Author.Needs.{needs}
 use native.Mathlib.Omega.{arith}
+use mathlib.Core.Bool.{Bool}
 use mathlib.Core.List.{List}
 use mathlib.Core.Path.{_≡_, refl, sym, _∙_}
 use Prim.Native.Nat.{ℕ, _+_, _-_, _≤_, _<_}
 use lib.ListN.{length, getD}
 use Rattle.model.specs.Levels.{topped}
-use Rattle.model.specs.Plans.{narrowedLows}
 use Rattle.model.specs.Laws.Bounds.{share-at-small}
 use Rattle.model.specs.Laws.Lists.{ranges-at}
-use Rattle.model.specs.Laws.Narrowing.{narrowedLows-length, narrowedLows-at}
 use Rattle.model.specs.Laws.Walk.{Ahead, ahead-share, ahead-step}
 use Rattle.model.specs.Laws.Writing.{Filled, filled-none, filled-more, filled-all}
 use Rattle.narrow.specs.Inner.Edges.{Planned}
 use Rattle.narrow.specs.Inner.Known.{SharedHolds}
-use Rattle.narrow.specs.Laws.Ends.{levelled-planned, to-low, low-reached}
+use Rattle.narrow.specs.Inner.Members.{narrowedEnds}
+use Rattle.narrow.specs.Laws.Ends.{levelled-planned}
 use Rattle.narrow.specs.Laws.Known.{nothing-known, seen-reached}
-use Rattle.narrow.proofs.members.narrow_lows.Statement.{statement}
-use Rattle.narrow.proofs.members.narrow_lows.Tie as tie
+use Rattle.narrow.specs.Laws.Members.{ends-length, ends-at, to-end, end-reached}
+use Rattle.narrow.proofs.members.narrow_ends.Statement.{statement}
+use Rattle.narrow.proofs.members.narrow_ends.Tie as tie
 
 abbrev Inv-loop : tie.InvT-loop
-Inv-loop lows highs table starts₀ question terms row v left₀ shared₀ next₀ starts left shared next =
+Inv-loop lows highs table ends₀ question terms row v up left₀ shared₀ next₀ ends left shared next =
     (next ≤ length lows)
-    × Filled (narrowedLows lows highs (question .total) (question .limits)) starts₀ starts next
+    × Filled (narrowedEnds up lows highs (question .total) (question .limits)) ends₀ ends next
     × Ahead lows highs v left₀ left next
     × SharedHolds lows highs (question .total) (question .limits) shared
 
 abbrev μ-loop : tie.MeasureT-loop
-μ-loop lows highs table starts₀ question terms row v left₀ shared₀ next₀ starts left shared next = length lows - next
+μ-loop lows highs table ends₀ question terms row v up left₀ shared₀ next₀ ends left shared next = length lows - next
 
 -- the function's start, seen from the loop
 abbrev start : tie.At-loop Inv-loop μ-loop → tie.Start Inv-loop μ-loop
@@ -84,6 +85,9 @@ module _ (c : tie.After-clamp Inv-loop μ-loop) where
   abbrev left : ℕ
   left = from .args .asked .levelled .over
 
+  abbrev up : Bool
+  up = from .args .asked .up
+
   abbrev i : ℕ
   i = turn .loop .next
 
@@ -104,10 +108,10 @@ module _ (c : tie.After-clamp Inv-loop μ-loop) where
   next = ahead-step lows highs i (omega arith) (omega (arith, from .pre .0 .has .sound .paired)) v left (turn .loop .left) (c .clamp .result) more (c .clamp .ensures) (c .before .extra .ensures) (turn .loop .inv .2)
 
   -- the narrowed list is as long as the group, and there is room for it
-  many : length (narrowedLows lows highs (from .args .asked .question .total) (from .args .asked .question .limits)) ≡ length lows
-  many = narrowedLows-length _ _ _ _
+  many : length (narrowedEnds up lows highs (from .args .asked .question .total) (from .args .asked .question .limits)) ≡ length lows
+  many = ends-length _ _ _ _ up
 
-  room : i < length (turn .loop .starts)
+  room : i < length (turn .loop .ends)
   room = omega (arith, turn .loop .inv .1 .size, from .pre .1)
 
 add-share : tie.Need-add-share Inv-loop μ-loop
@@ -116,41 +120,46 @@ add-share c = omega (arith, share-at-small (from c .pre .0 .has .sound) (i c) (v
 sub-left : tie.Need-sub-left Inv-loop μ-loop
 sub-left c = search needs
 
+end-of-requires : tie.Need-end-of-requires Inv-loop μ-loop
+end-of-requires c κs = search needs
+
 seen-at-requires : tie.Need-seen-at-requires Inv-loop μ-loop
 seen-at-requires c κs = search needs
 
-mul-starts : tie.Need-mul-starts Inv-loop μ-loop
-mul-starts c = omega (arith, from (c .before .before) .pre .0 .has .sound .few)
+mul-ends : tie.Need-mul-ends Inv-loop μ-loop
+mul-ends c = omega (arith, from (c .before .before .before) .pre .0 .has .sound .few)
 
-slice-write-starts : tie.Need-slice-write-starts Inv-loop μ-loop
-slice-write-starts c = room (c .before .before)
+slice-write-ends : tie.Need-slice-write-ends Inv-loop μ-loop
+slice-write-ends c = room (c .before .before .before)
 
 loop-less : tie.Need-loop-less Inv-loop μ-loop
 loop-less c = search needs
 
 loop-again : tie.Need-loop-again Inv-loop μ-loop
 loop-again c =
-    let m = c .before .before in
-    let p = from m .pre .0 in
+    let e = c .before .before in
+    let m = e .before in
     let inv = turn m .loop .inv in
-    let is = low-reached (planned m) (seen-reached (to-low (planned m) (p .tabled)) (inv .3) (c .before .seen-at .ensures (c .if1 .taken))) in (
+    let seen = rw (e .end-of .ensures) at (c .before .seen-at .ensures (c .if1 .taken)) in
+    let is = end-reached (planned m) (up m) (seen-reached (to-end (planned m) (up m) (from m .pre .0 .tabled)) (inv .3) seen) in (
       omega arith,
-      filled-more (inv .1) (omega (arith, many m)) (omega (arith, from m .pre .1)) _ (is ∙ sym (narrowedLows-at _ _ _ _ (i m) (omega arith))),
+      filled-more (inv .1) (omega (arith, many m)) (omega (arith, from m .pre .1)) _ (is ∙ sym (ends-at _ _ _ _ (up m) (i m) (omega arith))),
       next m,
       inv .3,
     )
 
 search-requires : tie.Need-search-requires Inv-loop μ-loop
 search-requires c κs =
-    let m = c .before .before in
+    let e = c .before .before in
+    let m = e .before in
     let p = from m .pre .0 in
-    (to-low (planned m) (p .tabled), (p .termed, turn m .loop .inv .3))
+    (rw (e .end-of .ensures) (to-end (planned m) (up m) (p .tabled)), (p .termed, turn m .loop .inv .3))
 
-mul-starts-2 : tie.Need-mul-starts-2 Inv-loop μ-loop
-mul-starts-2 c = omega (arith, from (c .before .before .before) .pre .0 .has .sound .few)
+mul-ends-2 : tie.Need-mul-ends-2 Inv-loop μ-loop
+mul-ends-2 c = omega (arith, from (c .before .before .before .before) .pre .0 .has .sound .few)
 
-slice-write-starts-2 : tie.Need-slice-write-starts-2 Inv-loop μ-loop
-slice-write-starts-2 c = room (c .before .before .before)
+slice-write-ends-2 : tie.Need-slice-write-ends-2 Inv-loop μ-loop
+slice-write-ends-2 c = room (c .before .before .before .before)
 
 loop-less-2 : tie.Need-loop-less-2 Inv-loop μ-loop
 loop-less-2 c = search needs
@@ -158,11 +167,12 @@ loop-less-2 c = search needs
 loop-again-2 : tie.Need-loop-again-2 Inv-loop μ-loop
 loop-again-2 c =
     let found = c .before .search .ensures in
-    let m = c .before .before .before .before in
+    let e = c .before .before .before .before in
+    let m = e .before in
     let inv = turn m .loop .inv in
-    let is = low-reached (planned m) (found .reaches) in (
+    let is = end-reached (planned m) (up m) (rw (e .end-of .ensures) at (found .reaches)) in (
       omega arith,
-      filled-more (inv .1) (omega (arith, many m)) (omega (arith, from m .pre .1)) _ (is ∙ sym (narrowedLows-at _ _ _ _ (i m) (omega arith))),
+      filled-more (inv .1) (omega (arith, many m)) (omega (arith, from m .pre .1)) _ (is ∙ sym (ends-at _ _ _ _ (up m) (i m) (omega arith))),
       next m,
       found .known,
     )
@@ -174,11 +184,11 @@ returns : tie.Need-returns Inv-loop μ-loop
 returns c =
     let inv = c .before .loop .inv in
     let s = start (c .before) in
-    let many = narrowedLows-length (s .args .lows .now) (s .args .highs .now) (s .args .asked .question .total) (s .args .asked .question .limits) in
+    let many = ends-length (s .args .lows .now) (s .args .highs .now) (s .args .asked .question .total) (s .args .asked .question .limits) (s .args .asked .up) in
     filled-all (inv .1) (s .pre .1 ∙ sym many) (omega (arith, many))
 
-pub narrow-lows-spec : {M : Type 1} → statement M
-narrow-lows-spec =
+pub narrow-ends-spec : {M : Type 1} → statement M
+narrow-ends-spec =
     tie.close
     (tie.spec
     Inv-loop
@@ -194,14 +204,15 @@ narrow-lows-spec =
     clamp-requires
     add-share
     sub-left
+    end-of-requires
     seen-at-requires
-    mul-starts
-    slice-write-starts
+    mul-ends
+    slice-write-ends
     loop-less
     loop-again
     search-requires
-    mul-starts-2
-    slice-write-starts-2
+    mul-ends-2
+    slice-write-ends-2
     loop-less-2
     loop-again-2
     same-length
