@@ -2,7 +2,7 @@
 use borrow.Author.Needs.{needs}
 use borrow.Author.Tests.{not-true, not-false}
 use native.Mathlib.Omega.{arith}
-use mathlib.Core.Bool.{Bool, true, false}
+use mathlib.Core.Bool.{Bool}
 use mathlib.Core.Path.{_≡_, refl, sym}
 use Rattle.model.specs.Plans.{hasPlan, turnOf}
 use Rattle.model.specs.Laws.Sound.{shares-had}
@@ -67,12 +67,12 @@ module _ (c : tie.Else1) where
       }
 
 narrow-ends-requires : tie.Need-narrow-ends-requires
-narrow-ends-requires c κs = (asked (c .before) false, begun (c .before) .pre .1 .1 .0)
+narrow-ends-requires c κs = (asked (c .before) _, begun (c .before) .pre .1 .1 .0)
 
 narrow-ends-requires-2 : tie.Need-narrow-ends-requires-2
 narrow-ends-requires-2 c κs =
     let e = c .before .before .before .before .before in
-    (asked e true, begun e .pre .1 .1 .1)
+    (asked e _, begun e .pre .1 .1 .1)
 
 same-length : tie.Need-same-length
 same-length c = search needs
