@@ -1,7 +1,7 @@
 // The planner's types, and what a limit allows.
 ghost use mathlib.Core.Path.{_≡_};
 ghost use Prim.Native.Nat.{_-_, _*_, _≤_};
-ghost use Rattle.model.specs.Figures.{allows, limitWithin, met};
+ghost use Rattle.model.specs.Figures.{limitWithin};
 ghost use Rattle.model.specs.Shares.{checked};
 
 pub mod levels;
@@ -105,40 +105,6 @@ impl Limit {
 pub struct Limits {
     pub deviation: Limit,
     pub spread: Limit,
-}
-
-impl Limits {
-    // Whether the deviation limit allows a deviation.
-    fn allows_deviation(self, deviation: Deviation) -> bool
-        ensures { λ r. ⌜ r ≡ allows (self .deviation) (deviation .0) ⌝ }
-    {
-        let limit = self.deviation;
-        match limit {
-            Limit::Any => true,
-            Limit::AtMost(most) => deviation.0 <= most,
-        }
-    }
-
-    // Whether the spread limit allows a spread.
-    fn allows_spread(self, spread: Spread) -> bool
-        ensures { λ r. ⌜ r ≡ allows (self .spread) (spread .0) ⌝ }
-    {
-        let limit = self.spread;
-        match limit {
-            Limit::Any => true,
-            Limit::AtMost(most) => spread.0 <= most,
-        }
-    }
-
-    // Whether each limit allows its figure.
-    pub fn met(self, figures: Figures) -> bool
-        ensures { λ r. ⌜ r ≡ met self figures ⌝ }
-    {
-        if !self.allows_deviation(figures.deviation) {
-            return false;
-        }
-        self.allows_spread(figures.spread)
-    }
 }
 
 // What is asked of a group's members: a total to share out, within limits.

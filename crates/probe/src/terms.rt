@@ -21,7 +21,7 @@ pub struct Terms {
     pub below: u64,
 }
 
-// More than any figure: what stands for the word any.
+// More than any figure: in the place of the word any.
 const UNLIMITED: u64 = 18_446_744_073_709_551_615;
 
 // A spread limit past this one allows every spread.
