@@ -8,8 +8,8 @@ use danivomel_tests::independent;
 pub const PLANNER: &str = "planner";
 /// The independent planner of tests/, in plain Rust: ends by bisection, each step a walk over the group.
 pub const BISECTION: &str = "plain Rust, bisection";
-/// The same in plain Rust the way that the proved planner goes: the bounds sorted once, ends by bisection over the rows and
-/// then over the values of one row.
+/// The same in plain Rust the way that the proved planner goes: the bounds sorted once, ends by Newton's steps over the values
+/// on the rows, and outcomes that members share.
 pub const ROWS: &str = "plain Rust, rows";
 /// The proved planner on the running members alone, where others have shut members too.
 pub const ALONE: &str = "planner, running members alone";
