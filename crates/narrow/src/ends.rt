@@ -153,7 +153,7 @@ fn with_row(
         value: found.inner,
         row: found.far,
     };
-    found.near = last_within(table, terms.last, trial, question.total);
+    found.near = last_within(table, terms.last, trial, terms.total);
     found.tried = true;
     found
 }
@@ -206,7 +206,7 @@ pub(crate) fn search(
     let low = lows[member];
     let high = highs[member];
     let last = terms.last;
-    let value = into_reach(table, last, low, high, way.end, question.total);
+    let value = into_reach(table, last, low, high, way.end, terms.total);
     let row = way.row;
     let trial = Trial {
         low,

@@ -13,9 +13,8 @@ ghost use lib.ListN.{length};
 ghost use Rattle.model.specs.Shares.{pick};
 ghost use Rattle.narrow.specs.Inner.Members.{narrowedEnds, Narrowable};
 
-// What a turn asks of every member: the question, its terms, where the levelled shares are, and whether highs are asked for or lows.
+// What a turn asks of every member: its terms, where the levelled shares are, and whether highs are asked for or lows.
 pub(crate) struct Asked {
-    pub(crate) question: Question,
     pub(crate) terms: Terms,
     pub(crate) levelled: Levelled,
     pub(crate) up: bool,
@@ -31,19 +30,20 @@ fn end_of(low: u64, high: u64, up: bool) -> u64
     low
 }
 
-// Writes the highs, or the lows, of the narrowed ranges of a group that has a plan over a list.
+// Writes the highs, or the lows, of the narrowed ranges of a group that has a plan over a list. The question is there for
+// the contract: the terms are of it.
 pub(crate) fn narrow_ends(
     lows: &[u64],
     highs: &[u64],
     table: &[u64],
+    question: Question,
     asked: Asked,
     ends: &mut [u64],
 )
-    requires { ⌜ Narrowable (now lows) (now highs) (now table) asked ⌝ }
+    requires { ⌜ Narrowable (now lows) (now highs) (now table) question asked ⌝ }
     requires { ⌜ length (now ends) ≡ length (now lows) ⌝ }
-    ensures { λ _. ⌜ now (ends .exit) ≡ narrowedEnds (asked .up) (now (lows .entry)) (now (highs .entry)) (asked .question .total) (asked .question .limits) ⌝ }
+    ensures { λ _. ⌜ now (ends .exit) ≡ narrowedEnds (asked .up) (now (lows .entry)) (now (highs .entry)) (question .total) (question .limits) ⌝ }
 {
-    let question = asked.question;
     let terms = asked.terms;
     let row = asked.levelled.row;
     let v = asked.levelled.level;

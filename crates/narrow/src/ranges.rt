@@ -44,19 +44,17 @@ fn narrow_on(
         return Turn::NoPlan(12);
     }
     let down = Asked {
-        question,
         terms,
         levelled,
         up: false,
     };
-    narrow_ends(lows, highs, table, down, starts);
+    narrow_ends(lows, highs, table, question, down, starts);
     let up = Asked {
-        question,
         terms,
         levelled,
         up: true,
     };
-    narrow_ends(lows, highs, table, up, stops);
+    narrow_ends(lows, highs, table, question, up, stops);
     Turn::Narrowed
 }
 

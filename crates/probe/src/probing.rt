@@ -17,22 +17,22 @@ ghost use mathlib.Core.Path.{_≡_};
 ghost use Rattle.probe.specs.Inner.Probes.{LastWithin};
 ghost use Rattle.probe.specs.Inner.Verdicts.{Lookable, Triable, PinnedFigures, withinTerms, Decides, LevelledOn};
 
-// What a look at a pinned group finds: the row below its level, half of the deviation and the sum of squares of its levelled
-// shares, and the level of the others there with the copies left over.
+// What a look at a pinned group finds: half of the deviation and the sum of squares of its levelled shares, and the level
+// of the others there with the copies left over.
 struct Pinned {
-    row: usize,
     half: u64,
     squares: u64,
     level: u64,
     over: u64,
 }
 
-// Looks a pinned group up in the table.
-fn look(lows: &[u64], highs: &[u64], table: &[u64], terms: Terms, trial: Trial) -> Pinned
+// Looks a pinned group up in the table, at the row below its level. The search for the row stands apart: what is left is
+// small enough to be compiled into each caller.
+fn look(lows: &[u64], highs: &[u64], table: &[u64], terms: Terms, trial: Trial, k: usize) -> Pinned
     requires { ⌜ Lookable (now lows) (now highs) (now table) terms (trial .low) (trial .high) (trial .value) ⌝ }
-    ensures { λ r. ⌜ PinnedFigures (now (lows .entry)) (now (highs .entry)) (now (table .entry)) terms (trial .low) (trial .high) (trial .value) r ⌝ }
+    requires { ⌜ LastWithin (now table) (terms .last) (trial .low) (trial .high) (trial .value) (terms .total) k ⌝ }
+    ensures { λ r. ⌜ PinnedFigures (now (lows .entry)) (now (highs .entry)) terms (trial .low) (trial .high) (trial .value) r ⌝ }
 {
-    let k = last_within(table, terms.last, trial, terms.total);
     let row = read_row(table, k);
     let copies = terms.total - pinned_total(row, trial.low, trial.high, trial.value);
     let reach = reach_from(row, trial.low, trial.high, copies);
@@ -40,7 +40,6 @@ fn look(lows: &[u64], highs: &[u64], table: &[u64], terms: Terms, trial: Trial) 
     let squares = pinned_squares(row, own, trial.value, reach);
     let half = pinned_half(terms, trial, reach);
     Pinned {
-        row: k,
         half,
         squares,
         level: reach.level,
@@ -80,8 +79,8 @@ pub fn try_value(
     ensures { λ r. ⌜ Decides (now (lows .entry)) (now (highs .entry)) (question .total) (question .limits) (trial .low) (trial .high) (trial .value) (r .taken) ⌝ }
     ensures { λ r. ⌜ LastWithin (now (table .entry)) (terms .last) (trial .low) (trial .high) (trial .value) (question .total) (r .row) ⌝ }
 {
-    let pinned = look(lows, highs, table, terms, trial);
-    let row = pinned.row;
+    let row = last_within(table, terms.last, trial, terms.total);
+    let pinned = look(lows, highs, table, terms, trial, row);
     if within(terms, pinned) {
         return Tried {
             taken: true,
@@ -119,10 +118,11 @@ pub fn level_on(lows: &[u64], highs: &[u64], table: &[u64], terms: Terms) -> Lev
         value: 0,
         row: terms.last / 2,
     };
-    let pinned = look(lows, highs, table, terms, whole);
+    let row = last_within(table, terms.last, whole, terms.total);
+    let pinned = look(lows, highs, table, terms, whole, row);
     let planned = within(terms, pinned);
     Levelled {
-        row: pinned.row,
+        row,
         level: pinned.level,
         over: pinned.over,
         planned,

@@ -49,9 +49,8 @@ pub record Figured (lows highs : List ℕ) (terms : Terms) (pinned : Pinned) : T
   pub small : pinned .half ≤ greatestHalf
   pub squares : pinned .squares ≡ sumOf square (topped lows highs (pinned .level) (pinned .over))
 
--- the row found, and what is found of all ranges with the value
-pub record PinnedFigures (lows highs table : List ℕ) (terms : Terms) (low high v : ℕ) (pinned : Pinned) : Type 0 where
-  pub found : LastWithin table (terms .last) low high v (terms .total) (pinned .row)
+-- what is found of all ranges with the value
+pub record PinnedFigures (lows highs : List ℕ) (terms : Terms) (low high v : ℕ) (pinned : Pinned) : Type 0 where
   pub is : {lows′ highs′ : List ℕ} → Pin lows highs low high v lows′ highs′ → Figured lows′ highs′ terms pinned
 
 -- both figures are within the terms

@@ -10,17 +10,18 @@ use lib.Dec.{leb}
 use lib.ListN.{length}
 use borrow.Author.Tests.{le-leb, lt-leb}
 use Rattle.model.specs.Plans.{hasPlan}
-use Rattle.model.specs.Shares.{mostUnits}
+use Rattle.model.specs.Shares.{mostUnits, greatestTotal}
 use Rattle.probe.specs.declared.probing.Levelled.{Levelled}
 use Rattle.probe.specs.declared.terms.Terms.{Terms}
 use Rattle.model.specs.declared.Limit.the-variants.{Any, AtMost}
 use Rattle.model.specs.declared.Limits.{Limits}
-use Rattle.probe.specs.Inner.Rows.{lastRow}
+use Rattle.probe.specs.Inner.Rows.{rowAt, lastRow}
 use Rattle.probe.specs.Inner.Sides.{greatestHalf}
 use Rattle.probe.specs.Inner.Tables.{greatestPart}
 use Rattle.probe.specs.Inner.Terms.{HalfAllowed, SquaresAllowed, Termed}
 use Rattle.probe.specs.Inner.Pinned.{Reached}
-use Rattle.probe.specs.Inner.Probes.{InReach, LastWithin}
+use Rattle.probe.specs.Inner.Probes.{pinnedTotal, Probeable, InReach, LastWithin, IntoReach}
+use Rattle.probe.specs.Laws.Probes.{probeable}
 use Rattle.probe.specs.Inner.Verdicts.{Lookable, Triable, LevelledOn}
 
 -- two tests that hold together are the same
@@ -66,6 +67,10 @@ module _ {lows highs table : List ℕ} {terms : Terms} {low high v : ℕ} (asked
   pub reach-last : InReach table (lastRow table) low high v (terms .total)
   reach-last = rw (asked .summed .ended) at (asked .reach)
 
+  -- so that the row below the level can be searched for
+  pub row-findable : Probeable table (terms .last) low high v × (pinnedTotal (rowAt table 0) low high v ≤ terms .total)
+  row-findable = (rw (asked .summed .ended) (probeable (asked .sound) (asked .held) (asked .asked .pin)), asked .reach .least)
+
   pub found-last : {k : ℕ} → LastWithin table (terms .last) low high v (terms .total) k → LastWithin table (lastRow table) low high v (terms .total) k
   found-last found = rw (asked .summed .ended) at found
 
@@ -79,6 +84,22 @@ lookable asked = record {
   asked = asked .asked;
   reach = rw (asked .termed .totals) (asked .reach);
 }
+
+-- what a search for a row and a move into reach are asked and tell, with the last row and the total that the terms are of
+module _ {lows highs table : List ℕ} {total : ℕ} {limits : Limits} {terms : Terms} (termed : Termed lows highs table total limits terms) {low high v : ℕ} where
+  pub row-asked : Probeable table (lastRow table) low high v → pinnedTotal (rowAt table 0) low high v ≤ total
+      → Probeable table (terms .last) low high v × (pinnedTotal (rowAt table 0) low high v ≤ terms .total)
+  row-asked rows least = rw (termed .group .ended, termed .totals) (rows, least)
+
+  pub row-told : {k : ℕ} → LastWithin table (terms .last) low high v (terms .total) k → LastWithin table (lastRow table) low high v total k
+  row-told found = rw (termed .group .ended, termed .totals) at found
+
+  pub reach-asked : Probeable table (lastRow table) low high v → total ≤ greatestTotal → pinnedTotal (rowAt table 0) low high v ≤ total + v
+      → Probeable table (terms .last) low high v × ((terms .total ≤ greatestTotal) × (pinnedTotal (rowAt table 0) low high v ≤ terms .total + v))
+  reach-asked rows small least = rw (termed .group .ended, termed .totals) (rows, (small, least))
+
+  pub reach-told : {r : ℕ} → IntoReach table (terms .last) low high v (terms .total) r → IntoReach table (lastRow table) low high v total r
+  reach-told moved = rw (termed .group .ended, termed .totals) at moved
 
 -- what is found of the group itself, with the total and the limits that the terms are of
 module _ {lows highs table : List ℕ} {total : ℕ} {limits : Limits} {terms : Terms} {at : Levelled} (termed : Termed lows highs table total limits terms)

@@ -11,6 +11,7 @@ use Rattle.narrow.specs.Inner.Edges.{Approach, Search}
 use Rattle.narrow.specs.Laws.Edges.{nearest-reach, nearest-edge}
 use Rattle.narrow.specs.Laws.Known.{trial-known}
 use Rattle.probe.specs.Inner.Rows.{lastRow}
+use Rattle.probe.specs.Laws.Terms.{reach-asked, reach-told}
 use Rattle.narrow.specs.Laws.Reaching.{MovedIntoReach, probes, room, moved, triable, told}
 use Rattle.narrow.proofs.ends.search.Statement.{statement}
 use Rattle.narrow.proofs.ends.search.Tie as tie
@@ -31,7 +32,7 @@ into-reach-requires : tie.Need-into-reach-requires
 into-reach-requires c κs =
     let p = c .before .before .before .before .before .pre in
     let way = p .0 in
-    (rw (p .1 .0 .group .ended) (probes way _ (way .small)), (way .tabled .sound .small, room way))
+    reach-asked (p .1 .0) (probes way _ (way .small)) (way .tabled .sound .small) (room way)
 
 -- what the move gives
 module _ (c : tie.After-into-reach) where
@@ -61,7 +62,7 @@ module _ (c : tie.After-into-reach) where
   ended = start .pre .1 .0 .group .ended
 
   there : MovedIntoReach way (c .into-reach .result)
-  there = moved way (rw ended at (c .into-reach .ensures))
+  there = moved way (reach-told (start .pre .1 .0) (c .into-reach .ensures))
 
 try-value-requires : tie.Need-try-value-requires
 try-value-requires c κs = triable (way c) _ (there c .small) (start c .pre .1 .0) (there c .inReach)

@@ -1,6 +1,7 @@
 -- A value that some plan gives the member is in reach, so that its row can be looked for. Assumes nothing.
 use borrow.Author.Needs.{needs}
 use mathlib.Core.Path.{refl}
+use Rattle.probe.specs.Laws.Terms.{row-asked, row-told}
 use Rattle.narrow.specs.Laws.Reaching.{probes, share-reach}
 use Rattle.narrow.proofs.ends.with_row.Statement.{statement}
 use Rattle.narrow.proofs.ends.with_row.Tie as tie
@@ -30,12 +31,12 @@ last-within-requires : tie.Need-last-within-requires
 last-within-requires c κs =
     let p = start c .pre in
     let way = p .0 .way in
-    rw (p .1 .0 .group .ended) (probes way _ (way .share-small), share-reach way .least)
+    row-asked (p .1 .0) (probes way _ (way .share-small)) (share-reach way .least)
 
 returns-2 : tie.Need-returns-2
 returns-2 c =
     let p = start (c .before) .pre in
-    record { inner = refl; outer = refl; far = refl; near = λ _. rw (p .1 .0 .group .ended) at (c .last-within .ensures) }
+    record { inner = refl; outer = refl; far = refl; near = λ _. row-told (p .1 .0) (c .last-within .ensures) }
 
 pub with-row-spec : {M : Type 1} → statement M
 with-row-spec =

@@ -21,25 +21,25 @@ use Rattle.narrow.proofs.members.narrow_ends.Statement.{statement}
 use Rattle.narrow.proofs.members.narrow_ends.Tie as tie
 
 abbrev Inv-loop : tie.InvT-loop
-Inv-loop lows highs table ends₀ question terms row v up left₀ shared₀ next₀ ends left shared next =
+Inv-loop lows highs table question ends₀ terms row v up left₀ shared₀ next₀ ends left shared next =
     (next ≤ length lows)
     × Filled (narrowedEnds up lows highs (question .total) (question .limits)) ends₀ ends next
     × Ahead lows highs v left₀ left next
     × SharedHolds lows highs (question .total) (question .limits) shared
 
 abbrev μ-loop : tie.MeasureT-loop
-μ-loop lows highs table ends₀ question terms row v up left₀ shared₀ next₀ ends left shared next = length lows - next
+μ-loop lows highs table question ends₀ terms row v up left₀ shared₀ next₀ ends left shared next = length lows - next
 
 -- the function's start, seen from the loop
 abbrev start : tie.At-loop Inv-loop μ-loop → tie.Start Inv-loop μ-loop
-start t = t .before .before .before .before .before .before .before .before
+start t = t .before .before .before .before .before .before .before
 
 nothing-known-requires : tie.Need-nothing-known-requires Inv-loop μ-loop
 nothing-known-requires c κs = search needs
 
 loop-holds : tie.Need-loop-holds Inv-loop μ-loop
 loop-holds c =
-    let s = c .before .before .before .before .before .before .before in
+    let s = c .before .before .before .before .before .before in
     (omega arith, filled-none _ _, refl, nothing-known (s .pre .0 .has .sound .ranges) (c .nothing-known .ensures))
 
 add-next : tie.Need-add-next Inv-loop μ-loop
@@ -101,14 +101,14 @@ module _ (c : tie.After-clamp Inv-loop μ-loop) where
   is-share : share ≡ getD (topped lows highs v left) i 0
   is-share = sym (ahead-share lows highs i (omega arith) (omega (arith, from .pre .0 .has .sound .paired)) v left (turn .loop .left) (c .clamp .result) more (c .clamp .ensures) (c .before .extra .ensures) (turn .loop .inv .2))
 
-  planned : Planned lows highs (from .args .asked .question .total) (from .args .asked .question .limits) i share
+  planned : Planned lows highs (from .args .question .total) (from .args .question .limits) i share
   planned = rw is-share (levelled-planned (from .pre .0 .has) (from .pre .0 .reached) i (omega arith))
 
   next : Ahead lows highs v left (turn .loop .left - more) (i + 1)
   next = ahead-step lows highs i (omega arith) (omega (arith, from .pre .0 .has .sound .paired)) v left (turn .loop .left) (c .clamp .result) more (c .clamp .ensures) (c .before .extra .ensures) (turn .loop .inv .2)
 
   -- the narrowed list is as long as the group, and there is room for it
-  many : length (narrowedEnds up lows highs (from .args .asked .question .total) (from .args .asked .question .limits)) ≡ length lows
+  many : length (narrowedEnds up lows highs (from .args .question .total) (from .args .question .limits)) ≡ length lows
   many = ends-length _ _ _ _ up
 
   room : i < length (turn .loop .ends)
@@ -184,7 +184,7 @@ returns : tie.Need-returns Inv-loop μ-loop
 returns c =
     let inv = c .before .loop .inv in
     let s = start (c .before) in
-    let many = ends-length (s .args .lows .now) (s .args .highs .now) (s .args .asked .question .total) (s .args .asked .question .limits) (s .args .asked .up) in
+    let many = ends-length (s .args .lows .now) (s .args .highs .now) (s .args .question .total) (s .args .question .limits) (s .args .asked .up) in
     filled-all (inv .1) (s .pre .1 ∙ sym many) (omega (arith, many))
 
 pub narrow-ends-spec : {M : Type 1} → statement M

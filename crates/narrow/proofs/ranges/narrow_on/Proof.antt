@@ -53,8 +53,8 @@ module _ (c : tie.Else1) where
     found = rw (← is-planned (c .before .before)) (not-false (c .before .before .level-on .result .planned) (c .if1 .left));
   }
 
-  asked : (up : Bool) → Narrowable (begun .args .lows .now) (begun .args .highs .now) (begun .args .table .now)
-      (record { question = begun .args .question; terms = c .before .before .before .terms-of .result; levelled = c .before .before .level-on .result; up = up })
+  asked : (up : Bool) → Narrowable (begun .args .lows .now) (begun .args .highs .now) (begun .args .table .now) (begun .args .question)
+      (record { terms = c .before .before .before .terms-of .result; levelled = c .before .before .level-on .result; up = up })
   asked up =
       let l = c .before .before in
       record {

@@ -12,7 +12,7 @@ use Rattle.probe.specs.Inner.Rows.{rowAt, lastRow}
 use Rattle.probe.specs.Inner.Tables.{Sums}
 use Rattle.probe.specs.Inner.Pinned.{Pin, Reached}
 use Rattle.probe.specs.Inner.Probes.{pinnedTotal, LastWithin, Divided}
-use Rattle.probe.specs.Laws.Probes.{probeable, pinnable, growing, reached, divided-few}
+use Rattle.probe.specs.Laws.Probes.{pinnable, growing, reached, divided-few}
 use Rattle.probe.specs.Laws.Figures.{summable, moved-squares}
 use Rattle.probe.specs.Laws.Sides.{halving, halved}
 use Rattle.probe.specs.Laws.Terms.{reach-last, found-last}
@@ -20,15 +20,10 @@ use Rattle.probe.specs.Inner.Verdicts.{Lookable}
 use Rattle.probe.proofs.probing.look.Statement.{statement}
 use Rattle.probe.proofs.probing.look.Tie as tie
 
-last-within-requires : tie.Need-last-within-requires
-last-within-requires c κs =
-    let p = c .before .before .before .pre in
-    (rw (p .summed .ended) (probeable (p .sound) (p .held) (p .asked .pin)), p .reach .least)
-
 -- what the function is asked, and the row found
-module _ (c : tie.After-last-within) where
+module _ (c : tie.After-shared-slice-known3) where
   abbrev start : tie.Start
-  start = c .before .before .before .before
+  start = c .before .before .before
 
   abbrev terms : Terms
   terms = start .args .terms
@@ -43,16 +38,16 @@ module _ (c : tie.After-last-within) where
   highs = start .args .highs .now
 
   abbrev row : Row
-  row = rowAt (start .args .table .now) (c .last-within .result)
+  row = rowAt (start .args .table .now) (start .args .k)
 
   abbrev copies : ℕ
   copies = terms .total - pinnedTotal row (trial .low) (trial .high) (trial .value)
 
   asked : Lookable lows highs (start .args .table .now) terms (trial .low) (trial .high) (trial .value)
-  asked = start .pre
+  asked = start .pre .0
 
-  found : LastWithin (start .args .table .now) (lastRow (start .args .table .now)) (trial .low) (trial .high) (trial .value) (terms .total) (c .last-within .result)
-  found = found-last asked (c .last-within .ensures)
+  found : LastWithin (start .args .table .now) (lastRow (start .args .table .now)) (trial .low) (trial .high) (trial .value) (terms .total) (start .args .k)
+  found = found-last asked (start .pre .1)
 
   sums : Sums lows highs row
   sums = asked .held .sums _ (found .upTo)
@@ -76,7 +71,7 @@ reach-from-requires c κs =
 
 -- the level reached, for whatever ranges have the value
 module _ (c : tie.After-reach-from) where
-  abbrev from : tie.After-last-within
+  abbrev from : tie.After-shared-slice-known3
   from = c .before .before .before .before
 
   abbrev reach : Reach
@@ -116,7 +111,6 @@ returns c =
     let r = q .before .before in
     let f = from r in
     record {
-      found = f .last-within .ensures;
       is = λ pin. record {
         mark = _;
         moving = _;
@@ -132,7 +126,6 @@ pub look-spec : {M : Type 1} → statement M
 look-spec =
     tie.close
     (tie.spec
-    last-within-requires
     read-row-requires
     pinned-total-requires
     sub-copies
