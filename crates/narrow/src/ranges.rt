@@ -15,13 +15,14 @@ use probe::terms::terms_of;
 ghost use mathlib.Core.Path.{_≡_};
 ghost use Prim.Native.Nat.{_≤_};
 ghost use lib.ListN.{length, take};
-ghost use Rattle.model.specs.Plans.{turnOf, narrowedLows, narrowedHighs};
+ghost use Rattle.model.specs.Plans.{hasPlan, narrowedLows, narrowedHighs};
 ghost use Rattle.model.specs.Running.{Marked};
+ghost use Rattle.model.specs.Shares.{pick};
 ghost use Rattle.model.specs.Sound.{SoundRanges, HasShares};
-ghost use Rattle.narrow.specs.Inner.Turns.{afterTurn, Turned, MarkedTurned};
+ghost use Rattle.narrow.specs.Inner.Turns.{NarrowedIf, Turned, MarkedTurned};
 ghost use Rattle.narrow.specs.Inner.Tabled.{Tabled, TableLists, TableRoom};
 
-// Writes the narrowed ranges of a group that has shares over starts and stops, or says that it has no plan.
+// Whether a group that has shares has a plan; if so, its narrowed ranges are written over starts and stops.
 fn narrow_on(
     lows: &[u64],
     highs: &[u64],
@@ -29,19 +30,19 @@ fn narrow_on(
     question: Question,
     starts: &mut [u64],
     stops: &mut [u64],
-) -> Turn
+) -> bool
     requires { ⌜ HasShares (now lows) (now highs) (question .total) ⌝ }
     requires { ⌜ Tabled (now lows) (now highs) (question .total) (now table) ⌝ }
     requires { ⌜ length (now starts) ≡ length (now lows) ⌝ }
     requires { ⌜ length (now stops) ≡ length (now lows) ⌝ }
-    ensures { λ r. ⌜ r ≡ turnOf (now (lows .entry)) (now (highs .entry)) (question .total) (question .limits) ⌝ }
-    ensures { λ r. ⌜ now (starts .exit) ≡ afterTurn r (narrowedLows (now (lows .entry)) (now (highs .entry)) (question .total) (question .limits)) (now (starts .entry)) ⌝ }
-    ensures { λ r. ⌜ now (stops .exit) ≡ afterTurn r (narrowedHighs (now (lows .entry)) (now (highs .entry)) (question .total) (question .limits)) (now (stops .entry)) ⌝ }
+    ensures { λ r. ⌜ r ≡ hasPlan (now (lows .entry)) (now (highs .entry)) (question .total) (question .limits) ⌝ }
+    ensures { λ r. ⌜ now (starts .exit) ≡ pick r (narrowedLows (now (lows .entry)) (now (highs .entry)) (question .total) (question .limits)) (now (starts .entry)) ⌝ }
+    ensures { λ r. ⌜ now (stops .exit) ≡ pick r (narrowedHighs (now (lows .entry)) (now (highs .entry)) (question .total) (question .limits)) (now (stops .entry)) ⌝ }
 {
     let terms = terms_of(lows, highs, table, question);
     let levelled = level_on(lows, highs, table, terms);
     if !levelled.planned {
-        return Turn::NoPlan(12);
+        return false;
     }
     let down = Asked {
         terms,
@@ -55,11 +56,11 @@ fn narrow_on(
         up: true,
     };
     narrow_ends(lows, highs, table, question, up, stops);
-    Turn::Narrowed
+    true
 }
 
-// Narrows sound lists in place, or says that there is no plan and leaves them as they were. The three further lists
-// are room to work in: starts and stops as long as the group, and the table; they hold anything afterwards.
+// Whether a group that has shares has a plan; if so, its lists are narrowed in place. The three further lists are room to
+// work in: starts and stops as long as the group, and the table; they hold anything afterwards.
 fn narrow_with(
     lows: &mut [u64],
     highs: &mut [u64],
@@ -67,23 +68,19 @@ fn narrow_with(
     starts: &mut [u64],
     stops: &mut [u64],
     table: &mut [u64],
-) -> Turn
-    requires { ⌜ SoundRanges (now lows) (now highs) ⌝ }
+) -> bool
+    requires { ⌜ HasShares (now lows) (now highs) (question .total) ⌝ }
     requires { ⌜ TableLists (length (now lows)) (now starts) (now stops) (now table) ⌝ }
-    ensures { λ r. ⌜ Turned (now (lows .entry)) (now (highs .entry)) (question .total) (question .limits) r (now (lows .exit)) (now (highs .exit)) ⌝ }
+    ensures { λ r. ⌜ NarrowedIf (now (lows .entry)) (now (highs .entry)) (question .total) (question .limits) r (now (lows .exit)) (now (highs .exit)) ⌝ }
 {
-    let total = question.total;
-    if !has_shares(lows, highs, total) {
-        return Turn::NoPlan(11);
-    }
     let size = build(lows, highs, starts, stops, table);
-    let turn = narrow_on(lows, highs, &table[..size], question, starts, stops);
-    let Turn::Narrowed = turn else {
-        return turn;
-    };
+    let planned = narrow_on(lows, highs, &table[..size], question, starts, stops);
+    if !planned {
+        return false;
+    }
     copy(starts, lows);
     copy(stops, highs);
-    turn
+    true
 }
 
 // The same with arrays that have room for the group.
@@ -94,10 +91,10 @@ fn narrow_within(
     starts: &mut [u64],
     stops: &mut [u64],
     table: &mut [u64],
-) -> Turn
-    requires { ⌜ SoundRanges (now lows) (now highs) ⌝ }
+) -> bool
+    requires { ⌜ HasShares (now lows) (now highs) (question .total) ⌝ }
     requires { ⌜ TableRoom (length (now lows)) (now starts) (now stops) (now table) ⌝ }
-    ensures { λ r. ⌜ Turned (now (lows .entry)) (now (highs .entry)) (question .total) (question .limits) r (now (lows .exit)) (now (highs .exit)) ⌝ }
+    ensures { λ r. ⌜ NarrowedIf (now (lows .entry)) (now (highs .entry)) (question .total) (question .limits) r (now (lows .exit)) (now (highs .exit)) ⌝ }
 {
     let count = lows.len();
     narrow_with(
@@ -111,10 +108,10 @@ fn narrow_within(
 }
 
 // The same for a group of at most 4 members, with small arrays: clearing large ones would be much of its time.
-fn narrow_handful(lows: &mut [u64], highs: &mut [u64], question: Question) -> Turn
-    requires { ⌜ SoundRanges (now lows) (now highs) ⌝ }
+fn narrow_handful(lows: &mut [u64], highs: &mut [u64], question: Question) -> bool
+    requires { ⌜ HasShares (now lows) (now highs) (question .total) ⌝ }
     requires { ⌜ length (now lows) ≤ 4 ⌝ }
-    ensures { λ r. ⌜ Turned (now (lows .entry)) (now (highs .entry)) (question .total) (question .limits) r (now (lows .exit)) (now (highs .exit)) ⌝ }
+    ensures { λ r. ⌜ NarrowedIf (now (lows .entry)) (now (highs .entry)) (question .total) (question .limits) r (now (lows .exit)) (now (highs .exit)) ⌝ }
 {
     let mut starts = [0u64; 4];
     let mut stops = [0u64; 4];
@@ -123,10 +120,10 @@ fn narrow_handful(lows: &mut [u64], highs: &mut [u64], question: Question) -> Tu
 }
 
 // The same for a group of at most 16 members.
-fn narrow_few(lows: &mut [u64], highs: &mut [u64], question: Question) -> Turn
-    requires { ⌜ SoundRanges (now lows) (now highs) ⌝ }
+fn narrow_few(lows: &mut [u64], highs: &mut [u64], question: Question) -> bool
+    requires { ⌜ HasShares (now lows) (now highs) (question .total) ⌝ }
     requires { ⌜ length (now lows) ≤ 16 ⌝ }
-    ensures { λ r. ⌜ Turned (now (lows .entry)) (now (highs .entry)) (question .total) (question .limits) r (now (lows .exit)) (now (highs .exit)) ⌝ }
+    ensures { λ r. ⌜ NarrowedIf (now (lows .entry)) (now (highs .entry)) (question .total) (question .limits) r (now (lows .exit)) (now (highs .exit)) ⌝ }
 {
     let mut starts = [0u64; 16];
     let mut stops = [0u64; 16];
@@ -135,10 +132,10 @@ fn narrow_few(lows: &mut [u64], highs: &mut [u64], question: Question) -> Turn
 }
 
 // The same for a group of at most 64 members.
-fn narrow_many(lows: &mut [u64], highs: &mut [u64], question: Question) -> Turn
-    requires { ⌜ SoundRanges (now lows) (now highs) ⌝ }
+fn narrow_many(lows: &mut [u64], highs: &mut [u64], question: Question) -> bool
+    requires { ⌜ HasShares (now lows) (now highs) (question .total) ⌝ }
     requires { ⌜ length (now lows) ≤ 64 ⌝ }
-    ensures { λ r. ⌜ Turned (now (lows .entry)) (now (highs .entry)) (question .total) (question .limits) r (now (lows .exit)) (now (highs .exit)) ⌝ }
+    ensures { λ r. ⌜ NarrowedIf (now (lows .entry)) (now (highs .entry)) (question .total) (question .limits) r (now (lows .exit)) (now (highs .exit)) ⌝ }
 {
     let mut starts = [0u64; 64];
     let mut stops = [0u64; 64];
@@ -147,9 +144,9 @@ fn narrow_many(lows: &mut [u64], highs: &mut [u64], question: Question) -> Turn
 }
 
 // The same for the largest groups.
-fn narrow_most(lows: &mut [u64], highs: &mut [u64], question: Question) -> Turn
-    requires { ⌜ SoundRanges (now lows) (now highs) ⌝ }
-    ensures { λ r. ⌜ Turned (now (lows .entry)) (now (highs .entry)) (question .total) (question .limits) r (now (lows .exit)) (now (highs .exit)) ⌝ }
+fn narrow_most(lows: &mut [u64], highs: &mut [u64], question: Question) -> bool
+    requires { ⌜ HasShares (now lows) (now highs) (question .total) ⌝ }
+    ensures { λ r. ⌜ NarrowedIf (now (lows .entry)) (now (highs .entry)) (question .total) (question .limits) r (now (lows .exit)) (now (highs .exit)) ⌝ }
 {
     let mut starts = [0u64; MOST_UNITS];
     let mut stops = [0u64; MOST_UNITS];
@@ -157,11 +154,10 @@ fn narrow_most(lows: &mut [u64], highs: &mut [u64], question: Question) -> Turn
     narrow_within(lows, highs, question, &mut starts, &mut stops, &mut table)
 }
 
-// Narrows sound lists in place, or says that there is no plan and leaves them as they were. The room goes by the
-// group's size, and each size of it stands in a function of its own.
-pub fn narrow_core(lows: &mut [u64], highs: &mut [u64], question: Question) -> Turn
-    requires { ⌜ SoundRanges (now lows) (now highs) ⌝ }
-    ensures { λ r. ⌜ Turned (now (lows .entry)) (now (highs .entry)) (question .total) (question .limits) r (now (lows .exit)) (now (highs .exit)) ⌝ }
+// The same for every group: the room goes by its size, and each size of it stands in a function of its own.
+fn narrow_sized(lows: &mut [u64], highs: &mut [u64], question: Question) -> bool
+    requires { ⌜ HasShares (now lows) (now highs) (question .total) ⌝ }
+    ensures { λ r. ⌜ NarrowedIf (now (lows .entry)) (now (highs .entry)) (question .total) (question .limits) r (now (lows .exit)) (now (highs .exit)) ⌝ }
 {
     let count = lows.len();
     if count <= 4 {
@@ -174,6 +170,20 @@ pub fn narrow_core(lows: &mut [u64], highs: &mut [u64], question: Question) -> T
         return narrow_many(lows, highs, question);
     }
     narrow_most(lows, highs, question)
+}
+
+// Narrows sound lists in place, or says that there is no plan and leaves them as they were.
+pub fn narrow_core(lows: &mut [u64], highs: &mut [u64], question: Question) -> Turn
+    requires { ⌜ SoundRanges (now lows) (now highs) ⌝ }
+    ensures { λ r. ⌜ Turned (now (lows .entry)) (now (highs .entry)) (question .total) (question .limits) r (now (lows .exit)) (now (highs .exit)) ⌝ }
+{
+    if !has_shares(lows, highs, question.total) {
+        return Turn::NoPlan(11);
+    }
+    if !narrow_sized(lows, highs, question) {
+        return Turn::NoPlan(12);
+    }
+    Turn::Narrowed
 }
 
 // The same for the first members of lists.

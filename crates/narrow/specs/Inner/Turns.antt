@@ -2,11 +2,19 @@
 use Prim.Native.Nat.{ℕ}
 use mathlib.Core.List.{List}
 use mathlib.Core.Path.{_≡_}
-use Rattle.model.specs.Plans.{turnOf, narrowedLows, narrowedHighs}
+use mathlib.Core.Bool.{Bool}
+use Rattle.model.specs.Plans.{hasPlan, turnOf, narrowedLows, narrowedHighs}
 use Rattle.model.specs.Running.{markedTurn, markedLows, markedHighs}
+use Rattle.model.specs.Shares.{pick}
 use Rattle.model.specs.declared.Limits.{Limits}
 use Rattle.model.specs.declared.Turn.{Turn}
 use Rattle.model.specs.declared.Turn.the-variants.{NoPlan}
+
+-- whether a group that has shares has a plan, and both lists after it: narrowed if it has, else as they were
+pub record NarrowedIf (lows highs : List ℕ) (total : ℕ) (limits : Limits) (planned : Bool) (lowsLeft highsLeft : List ℕ) : Type 0 where
+  pub answer : planned ≡ hasPlan lows highs total limits
+  pub lowsAre : lowsLeft ≡ pick planned (narrowedLows lows highs total limits) lows
+  pub highsAre : highsLeft ≡ pick planned (narrowedHighs lows highs total limits) highs
 
 -- a list after a turn: the narrowed one, or as it was where there is no plan
 abbrev pub afterTurn : Turn → List ℕ → List ℕ → List ℕ

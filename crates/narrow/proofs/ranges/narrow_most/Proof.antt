@@ -16,7 +16,9 @@ slice-aggregate-narrow-within-3 : tie.Need-slice-aggregate-narrow-within-3
 slice-aggregate-narrow-within-3 c = search needs
 
 narrow-within-requires : tie.Need-narrow-within-requires
-narrow-within-requires c κs = search needs
+narrow-within-requires c κs =
+    let start = c .before .before .before .before .before .before .before in
+    (start .pre, record { sizeStarts = λ few. omega arith; sizeStops = λ few. omega arith; sizeTable = λ few. omega arith })
 
 same-length : tie.Need-same-length
 same-length c = search needs

@@ -1,12 +1,10 @@
--- 12 without a plan; else both lists are narrowed. Assumes nothing.
+-- With a plan both lists are narrowed. Assumes nothing.
 use borrow.Author.Needs.{needs}
 use borrow.Author.Tests.{not-true, not-false}
 use native.Mathlib.Omega.{arith}
 use mathlib.Core.Bool.{Bool}
-use mathlib.Core.Path.{_≡_, refl, sym}
-use Rattle.model.specs.Plans.{hasPlan, turnOf}
-use Rattle.model.specs.Laws.Sound.{shares-had}
-use Rattle.model.specs.Laws.Turns.{found-turn}
+use mathlib.Core.Path.{_≡_, refl, sym, _∙_}
+use Rattle.model.specs.Plans.{hasPlan}
 use Rattle.probe.specs.Inner.Terms.{Termed}
 use Rattle.probe.specs.Laws.Reaching.{shares-lookable}
 use Rattle.probe.specs.Laws.Terms.{level-reached, level-planned}
@@ -37,10 +35,9 @@ module _ (c : tie.After-level-on) where
   is-planned = level-planned termed (c .level-on .ensures)
 
 returns : tie.Need-returns
-unfolding turnOf
 returns c =
     let l = c .before .before in
-    (rw (shares-had (start l .pre .0), ← is-planned l, not-true (l .level-on .result .planned) (c .if1 .taken)), (refl, refl))
+    (sym (not-true (l .level-on .result .planned) (c .if1 .taken)) ∙ is-planned l, (refl, refl))
 
 -- the group has a plan
 module _ (c : tie.Else1) where
@@ -85,7 +82,7 @@ returns-2 c =
     let highs = c .before .before in
     let lows = highs .before .before .before .before in
     let e = lows .before .before in
-    (sym (found-turn _ _ _ _ (has-one e .found)), (lows .narrow-ends .ensures, highs .narrow-ends2 .ensures))
+    (sym (has-one e .found), (lows .narrow-ends .ensures, highs .narrow-ends2 .ensures))
 
 pub narrow-on-spec : {M : Type 1} → statement M
 narrow-on-spec =

@@ -10,10 +10,10 @@ use Rattle.narrow.proofs.ranges.narrow_within.Tie as tie
 -- the first numbers are there
 module _ (c : tie.Start) where
   for-starts : length (c .args .lows .now) ≤ length (c .args .starts .now)
-  for-starts = c .pre .1 .sizeStarts (c .pre .0 .few)
+  for-starts = c .pre .1 .sizeStarts (c .pre .0 .sound .few)
 
   for-stops : length (c .args .lows .now) ≤ length (c .args .stops .now)
-  for-stops = c .pre .1 .sizeStops (c .pre .0 .few)
+  for-stops = c .pre .1 .sizeStops (c .pre .0 .sound .few)
 
 slice-relend-prefix-narrow-with : tie.Need-slice-relend-prefix-narrow-with
 slice-relend-prefix-narrow-with c = for-starts (c .before .before .before .before .before .before .before)
@@ -34,7 +34,7 @@ narrow-with-requires c κs =
       record {
         sizeStarts = length-take-le _ _ (for-starts start);
         sizeStops = length-take-le _ _ (for-stops start);
-        sizeTable = start .pre .1 .sizeTable (start .pre .0 .few);
+        sizeTable = start .pre .1 .sizeTable (start .pre .0 .sound .few);
       },
     )
 
