@@ -13,12 +13,14 @@ use probe::probing::try_value;
 use probe::terms::Terms;
 ghost use mathlib.Core.Bool.{true};
 ghost use mathlib.Core.Path.{_≡_};
-ghost use Prim.Native.Nat.{_<_};
+ghost use Prim.Native.Nat.{_≤_, _<_};
 ghost use Rattle.model.specs.Figures.{apart};
 ghost use Rattle.model.specs.Plans.{taken};
+ghost use Rattle.probe.specs.Inner.Probes.{Probeable, LastWithin, pinnedTotal};
+ghost use Rattle.probe.specs.Inner.Rows.{rowAt};
 ghost use Rattle.probe.specs.Inner.Terms.{Termed};
 ghost use Rattle.narrow.specs.Inner.Edges.{Amid, Edge, Approach, Search};
-ghost use Rattle.narrow.specs.Inner.Known.{SharedHolds, RowOf, EdgeFound, WithRow, EndFound};
+ghost use Rattle.narrow.specs.Inner.Known.{SharedHolds, RowOf, EdgeFound, EndFound};
 
 // How many of Newton's steps an end gets before bisection takes over, which bounds the search.
 const NEWTON_STEPS: u64 = 8;
@@ -122,43 +124,20 @@ fn edge(
     found
 }
 
-// A member and the values that a search for an end of its range came to.
-struct Searched {
-    member: usize,
-    found: Bracket,
-}
-
-// The same values with the row of the inner one: where that is the share itself, no trial has told it.
-fn with_row(
-    lows: &[u64],
-    highs: &[u64],
-    table: &[u64],
-    question: Question,
-    terms: Terms,
-    searched: Searched,
-) -> Bracket
-    requires { ⌜ Search (now lows) (now highs) (now table) (question .total) (question .limits) (searched .member) (searched .found .outer) (searched .found .inner) ⌝ }
-    requires { ⌜ Termed (now lows) (now highs) (now table) (question .total) (question .limits) terms ⌝ }
-    requires { ⌜ (searched .found .tried ≡ true → RowOf (now lows) (now highs) (now table) (question .total) (searched .member) (searched .found .inner) (searched .found .near)) ⌝ }
-    ensures { λ r. ⌜ WithRow (now (lows .entry)) (now (highs .entry)) (now (table .entry)) (question .total) (searched .member) (searched .found) r ⌝ }
+// The row of the inner value that a search came to: where that is the share itself, no trial has told it.
+fn inner_row(table: &[u64], terms: Terms, trial: Trial, found: Bracket) -> usize
+    requires { ⌜ Probeable (now table) (terms .last) (trial .low) (trial .high) (trial .value) ⌝ }
+    requires { ⌜ pinnedTotal (rowAt (now table) 0) (trial .low) (trial .high) (trial .value) ≤ terms .total ⌝ }
+    requires { ⌜ (found .tried ≡ true → LastWithin (now table) (terms .last) (trial .low) (trial .high) (trial .value) (terms .total) (found .near)) ⌝ }
+    ensures { λ r. ⌜ LastWithin (now (table .entry)) (terms .last) (trial .low) (trial .high) (trial .value) (terms .total) r ⌝ }
 {
-    let mut found = searched.found;
     if found.tried {
-        return found;
+        return found.near;
     }
-    let member = searched.member;
-    let trial = Trial {
-        low: lows[member],
-        high: highs[member],
-        value: found.inner,
-        row: found.far,
-    };
-    found.near = last_within(table, terms.last, trial, terms.total);
-    found.tried = true;
-    found
+    last_within(table, terms.last, trial, terms.total)
 }
 
-// The same, with what is known afterwards.
+// The edge of a gap, with what is known afterwards.
 fn edge_noted(
     lows: &[u64],
     highs: &[u64],
@@ -175,11 +154,17 @@ fn edge_noted(
     ensures { λ r. ⌜ SharedHolds (now (lows .entry)) (now (highs .entry)) (question .total) (question .limits) (r .shared) ⌝ }
 {
     let member = gap.member;
-    let found = edge(lows, highs, table, question, terms, gap);
-    let searched = Searched { member, found };
-    let found = with_row(lows, highs, table, question, terms, searched);
+    let mut found = edge(lows, highs, table, question, terms, gap);
     let low = lows[member];
     let high = highs[member];
+    let trial = Trial {
+        low,
+        high,
+        value: found.inner,
+        row: found.far,
+    };
+    let near = inner_row(table, terms, trial, found);
+    found.near = near;
     let was = gap.shared;
     let shared = noted(table, terms.last, low, high, was, found);
     End {

@@ -166,9 +166,6 @@ pub(crate) fn noted(
     ensures { λ r. ⌜ Noted (now (table .entry)) last low high was found r ⌝ }
 {
     let top = greater(found.near, found.far);
-    if !found.tried {
-        return was;
-    }
     if last <= top {
         return was;
     }

@@ -50,7 +50,6 @@ pub data SeenTo (low high share end : ℕ) (shared : Shared) : ℕ → Type 0 wh
 
 -- what was found of a member with this low and high serves others from the level of the first row to that after the last one
 pub record Serves (table : List ℕ) (last low high : ℕ) (found : Bracket) (r : Shared) : Type 0 where
-  pub tried : found .tried ≡ true
   pub follows : max (found .near) (found .far) < last
   pub under : r .under ≡ rowAt table (min (found .near) (found .far)) .mark
   pub over : r .over ≡ rowAt table (suc (max (found .near) (found .far))) .mark
@@ -79,13 +78,6 @@ pub record Bracketed (lows highs table : List ℕ) (total : ℕ) (limits : Limit
 pub record EdgeFound (lows highs table : List ℕ) (total : ℕ) (limits : Limits) (i outside inside : ℕ) (found : Bracket) : Type 0 where
   pub bracketed : Bracketed lows highs table total limits i outside inside found
   pub near : apart (found .outer) (found .inner) ≤ 1
-
--- the same values, and the row of the inner one
-pub record WithRow (lows highs table : List ℕ) (total i : ℕ) (found r : Bracket) : Type 0 where
-  pub inner : r .inner ≡ found .inner
-  pub outer : r .outer ≡ found .outer
-  pub far : r .far ≡ found .far
-  pub near : r .tried ≡ true → RowOf lows highs table total i (found .inner) (r .near)
 
 -- how far values of member i are taken, and what is known then
 pub record EndFound (lows highs : List ℕ) (total : ℕ) (limits : Limits) (i end share : ℕ) (r : End) : Type 0 where

@@ -21,7 +21,7 @@ use Rattle.narrow.specs.declared.known.Shared.{Shared}
 use Rattle.narrow.specs.declared.known.Bracket.{Bracket}
 use Rattle.narrow.specs.Inner.Tabled.{Tabled}
 use Rattle.narrow.specs.Inner.Edges.{Edge, Reaches, Approach}
-use Rattle.narrow.specs.Inner.Known.{Outcomes, SharedHolds, EndKnown, EdgeKnown, SeenTo, Serves, Noted, RowOf, EdgeFound, WithRow}
+use Rattle.narrow.specs.Inner.Known.{Outcomes, SharedHolds, EndKnown, EdgeKnown, SeenTo, Serves, Noted, RowOf, EdgeFound}
 use Rattle.narrow.specs.Laws.Taken.{taken-between}
 
 -- where no high is so great, nothing is claimed
@@ -91,12 +91,9 @@ rows-rise held a b less upTo = let (steps, is) = le-dest less in marks-rise held
 module _ {lows highs table : List ℕ} {total : ℕ} {limits : Limits} (tabled : Tabled lows highs total table) {i : ℕ} (here : i < length lows)
     {was : Shared} {found : Bracket} (known : SharedHolds lows highs total limits was)
     (outcomes : Outcomes (taken lows highs total limits i) (found .inner) (found .outer)) (small : found .outer ≤ greatestShare)
-    (innerRow : found .tried ≡ true → RowOf lows highs table total i (found .inner) (found .near))
+    (innerRow : RowOf lows highs table total i (found .inner) (found .near))
     (outerRow : RowOf lows highs table total i (found .outer) (found .far)) where
-  abbrev last : ℕ
-  last = lastRow table
-
-  module _ {r : Shared} (serves : Serves table last (getD lows i 0) (getD highs i 0) found r) where
+  module _ {r : Shared} (serves : Serves table (lastRow table) (getD lows i 0) (getD highs i 0) found r) where
     -- a range that reaches from under to over reaches over the rows between
     covers : {low high : ℕ} → low ≤ r .under → r .over ≤ high → (k : ℕ) → min (found .near) (found .far) ≤ k → k ≤ max (found .near) (found .far)
         → Covers table k low high
@@ -117,7 +114,7 @@ module _ {lows highs table : List ℕ} {total : ℕ} {limits : Limits} (tabled :
     serve-known : SharedHolds lows highs total limits r
     serve-known = record {
       of = λ j below from upTo.
-          let inner-same = same-outcome j below from upTo (found .inner) (found .near) (outcomes .small) (innerRow (serves .tried)) (omega arith) (omega arith) in
+          let inner-same = same-outcome j below from upTo (found .inner) (found .near) (outcomes .small) innerRow (omega arith) (omega arith) in
           let outer-same = same-outcome j below from upTo (found .outer) (found .far) small outerRow (omega arith) (omega arith) in
           rw (serves .inner, serves .outer) (record {
             small = outcomes .small;
@@ -128,7 +125,7 @@ module _ {lows highs table : List ℕ} {total : ℕ} {limits : Limits} (tabled :
     }
 
   -- what is noted is known
-  pub noted-known : {r : Shared} → Noted table last (getD lows i 0) (getD highs i 0) was found r → SharedHolds lows highs total limits r
+  pub noted-known : {r : Shared} → Noted table (lastRow table) (getD lows i 0) (getD highs i 0) was found r → SharedHolds lows highs total limits r
   noted-known (Noted.stays same) = rw same known
   noted-known (Noted.serves serves) = serve-known serves
 
@@ -137,30 +134,17 @@ pub found-edge : {lows highs table : List ℕ} {total : ℕ} {limits : Limits} {
     → EdgeFound lows highs table total limits i outside inside found → Edge (taken lows highs total limits i) outside inside (found .inner)
 found-edge {found = found} over = record { outer = found .outer; straddle = over .bracketed .straddle; near = over .near }
 
--- and so does it with the row of its inner value
-pub found-with-row : {lows highs table : List ℕ} {total : ℕ} {limits : Limits} {i outside inside : ℕ} {found r : Bracket}
-    → EdgeFound lows highs table total limits i outside inside found → WithRow lows highs table total i found r
-    → EdgeFound lows highs table total limits i outside inside r
-found-with-row over placed = record {
-  bracketed = record {
-    straddle = rw (placed .inner, placed .outer) (over .bracketed .straddle);
-    search = rw (placed .inner, placed .outer) (over .bracketed .search);
-    outerRow = rw (placed .outer, placed .far) (over .bracketed .outerRow);
-    innerRow = λ tried. rw (placed .inner) (placed .near tried);
-  };
-  near = rw (placed .inner, placed .outer) (over .near);
-}
-
--- which serves others
-pub found-known : {lows highs table : List ℕ} {total : ℕ} {limits : Limits} {i outside inside : ℕ} {found : Bracket} {was r : Shared}
-    → EdgeFound lows highs table total limits i outside inside found → SharedHolds lows highs total limits was
-    → Noted table (lastRow table) (getD lows i 0) (getD highs i 0) was found r → SharedHolds lows highs total limits r
-found-known over known noted =
+-- which, with the row of its inner value, serves others
+pub found-known : {lows highs table : List ℕ} {total : ℕ} {limits : Limits} {i outside inside k : ℕ} {found : Bracket} {was r : Shared}
+    → EdgeFound lows highs table total limits i outside inside found → RowOf lows highs table total i (found .inner) k → SharedHolds lows highs total limits was
+    → Noted table (lastRow table) (getD lows i 0) (getD highs i 0) was (record { inner = found .inner; outer = found .outer; near = k; far = found .far; tried = found .tried }) r
+    → SharedHolds lows highs total limits r
+found-known over row known noted =
     let at = over .bracketed in
     let way = at .search .way in
     noted-known (way .tabled) (way .here) known
     (record { small = way .share-small; passes = way .passes; near = over .near; fails = λ other. at .search .fails })
-    (way .small) (at .innerRow) (at .outerRow) noted
+    (way .small) row (at .outerRow) noted
 
 -- and so does a value that is taken
 pub trial-known : {lows highs table : List ℕ} {total : ℕ} {limits : Limits} {i v k : ℕ} {was r : Shared}
@@ -169,4 +153,4 @@ pub trial-known : {lows highs table : List ℕ} {total : ℕ} {limits : Limits} 
     → Noted table (lastRow table) (getD lows i 0) (getD highs i 0) was (record { inner = v; outer = v; near = k; far = k; tried = true }) r
     → SharedHolds lows highs total limits r
 trial-known tabled here known small passes row noted =
-    noted-known tabled here known (record { small = small; passes = passes; near = omega arith; fails = λ other. absurd (other refl) }) small (λ _. row) row noted
+    noted-known tabled here known (record { small = small; passes = passes; near = omega arith; fails = λ other. absurd (other refl) }) small row row noted

@@ -91,6 +91,9 @@ module _ {lows highs table : List ℕ} {total : ℕ} {limits : Limits} {terms : 
       → Probeable table (terms .last) low high v × (pinnedTotal (rowAt table 0) low high v ≤ terms .total)
   row-asked rows least = rw (termed .group .ended, termed .totals) (rows, least)
 
+  pub row-known : {k : ℕ} → LastWithin table (lastRow table) low high v total k → LastWithin table (terms .last) low high v (terms .total) k
+  row-known found = rw (termed .group .ended, termed .totals) found
+
   pub row-told : {k : ℕ} → LastWithin table (terms .last) low high v (terms .total) k → LastWithin table (lastRow table) low high v total k
   row-told found = rw (termed .group .ended, termed .totals) at found
 

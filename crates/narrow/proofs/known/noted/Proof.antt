@@ -1,6 +1,5 @@
--- What was found serves others where it was tried, a row follows, and the range reaches over the rows; else what was known stays. Assumes nothing.
+-- What was found serves others where a row follows, and the range reaches over the rows; else what was known stays. Assumes nothing.
 use borrow.Author.Needs.{needs}
-use borrow.Author.Tests.{not-false}
 use native.Mathlib.Omega.{arith}
 use native.Mathlib.Numerals.{add-one}
 use mathlib.Core.Path.{refl}
@@ -14,17 +13,14 @@ greater-requires c κs = search needs
 returns : tie.Need-returns
 returns c = Noted.stays refl
 
-returns-2 : tie.Need-returns-2
-returns-2 c = Noted.stays refl
-
 lesser-requires : tie.Need-lesser-requires
 lesser-requires c κs = search needs
 
 read-row-requires : tie.Need-read-row-requires
 read-row-requires c κs = search needs
 
-returns-3 : tie.Need-returns-3
-returns-3 c = Noted.stays refl
+returns-2 : tie.Need-returns-2
+returns-2 c = Noted.stays refl
 
 add-read-row : tie.Need-add-read-row
 add-read-row c = search needs
@@ -32,15 +28,14 @@ add-read-row c = search needs
 read-row-requires-2 : tie.Need-read-row-requires-2
 read-row-requires-2 c κs = search needs
 
-returns-4 : tie.Need-returns-4
-returns-4 c = Noted.stays refl
+returns-3 : tie.Need-returns-3
+returns-3 c = Noted.stays refl
 
-returns-5 : tie.Need-returns-5
-returns-5 c =
+returns-4 : tie.Need-returns-4
+returns-4 c =
     let read = c .before .before .before in
-    let top = read .before .before .before .before .before in
+    let top = read .before .before .before in
     Noted.serves (record {
-      tried = not-false _ (read .before .before .before .if1 .left);
       follows = omega (arith, top .greater .ensures);
       under = rw (read .read-row .ensures, read .before .lesser .ensures);
       over = rw (c .before .read-row2 .ensures, ← top .greater .ensures, add-one);
@@ -56,11 +51,10 @@ noted-spec =
     (tie.spec
     greater-requires
     returns
-    returns-2
     lesser-requires
     read-row-requires
-    returns-3
+    returns-2
     add-read-row
     read-row-requires-2
-    returns-4
-    returns-5)
+    returns-3
+    returns-4)
