@@ -55,7 +55,8 @@ fn narrow_running(lows: &mut [u64], highs: &mut [u64], total: u64, limits: Limit
     }
     match lows.len() {
         0..=4 => narrow_within(lows, highs, total, limits, &mut Room::<4, 9>::new()),
-        5..=16 => narrow_within(lows, highs, total, limits, &mut Room::<16, 33>::new()),
+        5..=8 => narrow_within(lows, highs, total, limits, &mut Room::<8, 17>::new()),
+        9..=16 => narrow_within(lows, highs, total, limits, &mut Room::<16, 33>::new()),
         17..=64 => narrow_within(lows, highs, total, limits, &mut Room::<64, 129>::new()),
         _ => narrow_within(lows, highs, total, limits, &mut Room::<256, 513>::new()),
     }

@@ -119,8 +119,20 @@ fn narrow_handful(lows: &mut [u64], highs: &mut [u64], question: Question) -> bo
     narrow_within(lows, highs, question, &mut starts, &mut stops, &mut table)
 }
 
-// The same for a group of at most 16 members.
+// The same for a group of at most 8 members.
 fn narrow_few(lows: &mut [u64], highs: &mut [u64], question: Question) -> bool
+    requires { ⌜ HasShares (now lows) (now highs) (question .total) ⌝ }
+    requires { ⌜ length (now lows) ≤ 8 ⌝ }
+    ensures { λ r. ⌜ NarrowedIf (now (lows .entry)) (now (highs .entry)) (question .total) (question .limits) r (now (lows .exit)) (now (highs .exit)) ⌝ }
+{
+    let mut starts = [0u64; 8];
+    let mut stops = [0u64; 8];
+    let mut table = [0u64; 85];
+    narrow_within(lows, highs, question, &mut starts, &mut stops, &mut table)
+}
+
+// The same for a group of at most 16 members.
+fn narrow_several(lows: &mut [u64], highs: &mut [u64], question: Question) -> bool
     requires { ⌜ HasShares (now lows) (now highs) (question .total) ⌝ }
     requires { ⌜ length (now lows) ≤ 16 ⌝ }
     ensures { λ r. ⌜ NarrowedIf (now (lows .entry)) (now (highs .entry)) (question .total) (question .limits) r (now (lows .exit)) (now (highs .exit)) ⌝ }
@@ -163,8 +175,11 @@ fn narrow_sized(lows: &mut [u64], highs: &mut [u64], question: Question) -> bool
     if count <= 4 {
         return narrow_handful(lows, highs, question);
     }
-    if count <= 16 {
+    if count <= 8 {
         return narrow_few(lows, highs, question);
+    }
+    if count <= 16 {
+        return narrow_several(lows, highs, question);
     }
     if count <= 64 {
         return narrow_many(lows, highs, question);

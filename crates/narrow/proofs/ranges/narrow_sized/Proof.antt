@@ -8,6 +8,7 @@ use Rattle.narrow.proofs.ranges.narrow_few.Reads as narrow-few-reads
 use Rattle.narrow.proofs.ranges.narrow_handful.Reads as narrow-handful-reads
 use Rattle.narrow.proofs.ranges.narrow_many.Reads as narrow-many-reads
 use Rattle.narrow.proofs.ranges.narrow_most.Reads as narrow-most-reads
+use Rattle.narrow.proofs.ranges.narrow_several.Reads as narrow-several-reads
 
 narrow-handful-requires : tie.Need-narrow-handful-requires
 narrow-handful-requires c κs = search needs
@@ -33,8 +34,8 @@ same-length-4 c = search needs
 returns-2 : tie.Need-returns-2
 returns-2 c = search needs
 
-narrow-many-requires : tie.Need-narrow-many-requires
-narrow-many-requires c κs = search needs
+narrow-several-requires : tie.Need-narrow-several-requires
+narrow-several-requires c κs = search needs
 
 same-length-5 : tie.Need-same-length-5
 same-length-5 c = search needs
@@ -45,8 +46,8 @@ same-length-6 c = search needs
 returns-3 : tie.Need-returns-3
 returns-3 c = search needs
 
-narrow-most-requires : tie.Need-narrow-most-requires
-narrow-most-requires c κs = search needs
+narrow-many-requires : tie.Need-narrow-many-requires
+narrow-many-requires c κs = search needs
 
 same-length-7 : tie.Need-same-length-7
 same-length-7 c = search needs
@@ -56,6 +57,18 @@ same-length-8 c = search needs
 
 returns-4 : tie.Need-returns-4
 returns-4 c = search needs
+
+narrow-most-requires : tie.Need-narrow-most-requires
+narrow-most-requires c κs = search needs
+
+same-length-9 : tie.Need-same-length-9
+same-length-9 c = search needs
+
+same-length-10 : tie.Need-same-length-10
+same-length-10 c = search needs
+
+returns-5 : tie.Need-returns-5
+returns-5 c = search needs
 
 pub narrow-sized-spec : {M : Type 1} → statement M
 narrow-sized-spec =
@@ -69,11 +82,15 @@ narrow-sized-spec =
     same-length-3
     same-length-4
     returns-2
-    narrow-many-requires
+    narrow-several-requires
     same-length-5
     same-length-6
     returns-3
-    narrow-most-requires
+    narrow-many-requires
     same-length-7
     same-length-8
-    returns-4)
+    returns-4
+    narrow-most-requires
+    same-length-9
+    same-length-10
+    returns-5)
