@@ -4,7 +4,6 @@ pub mod Answers
 pub mod Findings
 pub mod First
 pub mod Levelling
-pub mod Narrowing
 pub mod Promises
 pub mod Shared
 pub mod Summing

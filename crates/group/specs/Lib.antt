@@ -3,7 +3,6 @@ pub mod First
 pub mod Findings
 pub mod Additions
 pub mod Levelling
-pub mod Narrowing
 pub mod Answers
 pub mod Promises
 pub mod Inner

@@ -1,17 +1,13 @@
--- What levelling and narrowing one group promise of the lists after the call, where they are not refused. Assumes nothing.
-use Prim.Native.Nat.{ℕ, _≤_, _<_}
+-- What levelling one group promises of the plan list after the call, where it is not refused. Assumes nothing.
+use Prim.Native.Nat.{ℕ, _≤_}
 use mathlib.Core.List.{List}
-use mathlib.Core.Logic.{_↔_}
 use mathlib.Core.Path.{_≡_}
-use lib.ListN.{length, getD, take, drop}
-use Rattle.model.specs.Shares.{greatestShare, Ranges, Within, sum}
+use lib.ListN.{length, take, drop}
+use Rattle.model.specs.Shares.{greatestShare, Within, sum}
 use Rattle.model.specs.Levels.{totalAt, levelled}
-use Rattle.model.specs.Narrowing.{RangesInside}
-use Rattle.model.specs.Running.{markedDeviation, markedSpread, markedAbove, markedFigures, markedLows, markedHighs, MarkedTaken}
+use Rattle.model.specs.Running.{markedDeviation, markedSpread, markedAbove, markedFigures}
 use Rattle.model.specs.declared.Figures.{Figures}
-use Rattle.model.specs.declared.Limits.{Limits}
 use Rattle.group.specs.Levelling.{levelling, planAfter}
-use Rattle.group.specs.Narrowing.{narrowing, listAfter}
 
 -- 01: the level, "the greatest v from 0 to 1,000,000 with T(v) at most S"
 pub record GreatestLevel (lows highs : List ℕ) (total v : ℕ) : Type 0 where
@@ -40,18 +36,3 @@ module _ (lows highs marks : List ℕ) (total : ℕ) (plan : List ℕ) where
   -- the plan list after levelling
   abbrev pub planLeft : List ℕ
   planLeft = planAfter (levelling lows highs marks total (length plan)) (levelled lows highs total) plan
-
--- 01, demand 2: ranges inside those at the call, and a value lies in a member's range exactly if some plan within those at the call takes it
-pub record NarrowPromise (lows highs marks : List ℕ) (total : ℕ) (limits : Limits) (lowsAfter highsAfter : List ℕ) : Type 0 where
-  pub ranges : Ranges lowsAfter highsAfter
-  pub inside : RangesInside lowsAfter highsAfter lows highs
-  pub exactly : (i : ℕ) → i < length lows → (v : ℕ)
-      → ((getD lowsAfter i 0 ≤ v) × (v ≤ getD highsAfter i 0)) ↔ MarkedTaken marks lows highs total limits i v
-
-module _ (lows highs marks : List ℕ) (total : ℕ) (limits : Limits) where
-  -- the lists after narrowing
-  abbrev pub lowsLeft : List ℕ
-  lowsLeft = listAfter (narrowing lows highs marks total limits) (markedLows marks lows highs total limits) lows
-
-  abbrev pub highsLeft : List ℕ
-  highsLeft = listAfter (narrowing lows highs marks total limits) (markedHighs marks lows highs total limits) highs

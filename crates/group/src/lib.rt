@@ -1,5 +1,4 @@
-// Levelling and narrowing one group on lists.
-use crate::checks::amounts_within;
+// Levelling one group on lists.
 use crate::checks::check_lists;
 use crate::levels::find_level;
 use crate::plans::figures_of;
@@ -7,23 +6,18 @@ use crate::shares::fill_plan;
 use model::Checked;
 use model::Figures;
 use model::GREATEST_TOTAL;
-use model::Limits;
-use model::Question;
 use model::Refusal;
 use model::Share;
-use model::Turn;
 use model::shares::has_shares;
-use narrow::ranges::narrow_running;
 ghost use mathlib.Core.Path.{_≡_};
 ghost use Prim.Native.Nat.{_+_, _^_, _≤_, _<_};
 ghost use mathlib.Core.List.{_++_};
 ghost use lib.ListN.{length, drop};
 ghost use Rattle.model.specs.Levels.{level, levelled};
-ghost use Rattle.model.specs.Running.{Marked, markedFigures, markedLows, markedHighs};
+ghost use Rattle.model.specs.Running.{Marked, markedFigures};
 ghost use Rattle.group.specs.Additions.{mostAdditions};
 ghost use Rattle.model.specs.Sound.{SoundRanges, HasShares};
 ghost use Rattle.group.specs.Levelling.{levelledTo, levelling, planAfter};
-ghost use Rattle.group.specs.Narrowing.{narrowing, listAfter};
 
 pub mod checks;
 mod levels;
@@ -39,12 +33,6 @@ pub enum Check {
 // What levelling a group answers.
 pub enum Levelling {
     Levelled { level: Share, figures: Figures },
-    Refused(Refusal),
-}
-
-// What narrowing a group answers; the ranges lie in its lists.
-pub enum Narrowing {
-    Narrowed,
     Refused(Refusal),
 }
 
@@ -125,32 +113,4 @@ pub fn level(lows: &[u64], highs: &[u64], marks: &[u64], total: u64, plan: &mut 
         Check::Failed(refusal) => Levelling::Refused(refusal),
         Check::Passed => level_core(lows, highs, marks, total, plan),
     }
-}
-
-// Narrows a group on lists, in place.
-pub fn narrow(
-    lows: &mut [u64],
-    highs: &mut [u64],
-    marks: &[u64],
-    total: u64,
-    limits: Limits,
-) -> Narrowing
-    ensures { λ r. ⌜ r ≡ narrowing (now (lows .entry)) (now (highs .entry)) (now (marks .entry)) total limits ⌝ }
-    ensures { λ r. ⌜ now (lows .exit) ≡ listAfter r (markedLows (now (marks .entry)) (now (lows .entry)) (now (highs .entry)) total limits) (now (lows .entry)) ⌝ }
-    ensures { λ r. ⌜ now (highs .exit) ≡ listAfter r (markedHighs (now (marks .entry)) (now (lows .entry)) (now (highs .entry)) total limits) (now (highs .entry)) ⌝ }
-{
-    let check = check_lists(
-        lows,
-        highs,
-        marks,
-        lows.len(),
-        amounts_within(total, limits),
-    );
-    if let Check::Failed(refusal) = check {
-        return Narrowing::Refused(refusal);
-    }
-    let Turn::NoPlan(number) = narrow_running(lows, highs, marks, Question { total, limits }) else {
-        return Narrowing::Narrowed;
-    };
-    Narrowing::Refused(Refusal { number, place: 0 })
 }

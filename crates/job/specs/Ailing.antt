@@ -3,7 +3,7 @@ use Prim.Native.Nat.{ℕ, _≤_}
 use mathlib.Core.List.{List, _∷_}
 use mathlib.Core.Path.{_≡_}
 use lib.ListN.{length}
-use Rattle.ailment.specs.Sentences.{Ails}
+use Rattle.text.specs.Sentences.{Ails}
 use Rattle.job.specs.Form.{Line, printLine}
 use Rattle.job.specs.Job.{Job, mostBytes, verdict, add, placeOf, noLines}
 use Rattle.job.specs.TextLines.{linesOf}

@@ -4,7 +4,7 @@ use mathlib.Core.Bool.{Bool, true, false, not, _&&_, _||_}
 use mathlib.Core.List.{List, [], _∷_, _++_, map}
 use lib.Dec.{leb, ltb, eqb}
 use lib.ListN.{length}
-use Rattle.ailment.specs.Ailments.{frontLine, ailmentOf}
+use Rattle.text.specs.Ailments.{frontLine, ailmentOf}
 use Rattle.groups.specs.Memberships.{memberships}
 use Rattle.model.specs.Shares.{pick, greatestShare, greatestTotal, mostUnits}
 use Rattle.model.specs.Refusals.{refusal, unless}

@@ -19,7 +19,6 @@ use crate::lines::Unit;
 use crate::lines::UnitRead;
 use crate::lines::group_line;
 use crate::lines::unit_line;
-use ailment::ailment;
 use groups::HEAD;
 use groups::put_group;
 use groups::put_mark;
@@ -31,6 +30,7 @@ use model::MOST_UNITS;
 use model::Refusal;
 use model::Share;
 use text::Spot;
+use text::ailments::ailment;
 
 // What was read so far.
 pub struct Progress {

@@ -2,3 +2,5 @@
 pub mod Parsed
 pub mod Printed
 pub mod Spots
+pub mod Walking
+pub mod Sentences

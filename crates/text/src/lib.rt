@@ -8,6 +8,8 @@ ghost use Rattle.text.specs.Numbers.{number, numberAfter};
 ghost use Rattle.text.specs.Inner.Numbers.{held, most};
 ghost use Rattle.text.specs.Inner.Spots.{stepped, counted, firstDigit, digitsHeld};
 
+pub mod ailments;
+
 // The kind of a byte, by its number.
 pub enum Kind {
     Opening,

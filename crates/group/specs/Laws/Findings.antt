@@ -175,3 +175,9 @@ check-number (Finding.missized none) = inl refl
 check-number (Finding.beyond fits i unit) = inr (inl refl)
 check-number (Finding.amount fits shares outside) = inr (inl refl)
 check-number (Finding.crossed fits shares within i unit) = inr (inr refl)
+
+-- a refusal of the checks has a number from 1 to 7
+pub check-between : {number : ℕ} → CheckNumber number → (1 ≤ number) × (number ≤ 7)
+check-between (inl is) = omega arith
+check-between (inr (inl is)) = omega arith
+check-between (inr (inr is)) = omega arith

@@ -8,10 +8,10 @@ use native.Mathlib.Omega.{arith}
 use borrow.Author.Tests.{le-leb, leb-true}
 use lib.Dec.{leb, eqb}
 use lib.ListN.{length, length-append}
-use Rattle.ailment.specs.Ailments.{frontLine, ended, ailmentOf}
-use Rattle.ailment.specs.Laws.Sentences.{none-ended, ails-exactly}
-use Rattle.ailment.specs.Laws.Walking.{ended-front, whole-line}
-use Rattle.ailment.specs.Sentences.{Unended}
+use Rattle.text.specs.Ailments.{frontLine, ended, ailmentOf}
+use Rattle.text.specs.Laws.Sentences.{none-ended, ails-exactly}
+use Rattle.text.specs.Laws.Walking.{ended-front, whole-line}
+use Rattle.text.specs.Sentences.{Unended}
 use Rattle.model.specs.Laws.Tests.{clash}
 use Rattle.model.specs.Refusals.{refusal}
 use Rattle.model.specs.Shares.{pick}

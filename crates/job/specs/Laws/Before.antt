@@ -8,7 +8,7 @@ use native.Mathlib.Omega.{arith}
 use borrow.Author.Tests.{ne-eqb, lt-leb}
 use lib.Dec.{leb, ltb, eqb}
 use lib.ListN.{length}
-use Rattle.ailment.specs.Ailments.{frontLine, ended, paired, isNamed, ailmentOf}
+use Rattle.text.specs.Ailments.{frontLine, ended, paired, isNamed, ailmentOf}
 use Rattle.groups.specs.Memberships.{memberships}
 use Rattle.model.specs.Refusals.{refusal, unless}
 use Rattle.model.specs.Figures.{greatestDeviation, greatestSpread, limitWithin}

@@ -6,8 +6,8 @@ use mathlib.Core.Path.{_≡_, refl, sym, ap, _∙_}
 use native.Mathlib.Omega.{arith}
 use borrow.Author.Tests.{eqb-false, le-leb}
 use lib.Dec.{eqb}
-use Rattle.ailment.specs.Ailments.{ended, paired, isRun, letterNext, isName, isNamed, ailmentOf}
-use Rattle.ailment.specs.Laws.Sentences.{bracket-none}
+use Rattle.text.specs.Ailments.{ended, paired, isRun, letterNext, isName, isNamed, ailmentOf}
+use Rattle.text.specs.Laws.Sentences.{bracket-none}
 use Rattle.model.specs.Laws.Tests.{neither, either-right}
 use Rattle.model.specs.declared.Limit.{Limit}
 use Rattle.model.specs.declared.Limit.the-variants.{Any, AtMost}

@@ -23,7 +23,7 @@ use Rattle.job.specs.declared.lines.Unit.{Unit}
 use Rattle.job.specs.declared.steps.Progress.{Progress}
 use Rattle.job.specs.Inner.Taking.{placeAt}
 use Rattle.model.specs.Shares.{mostUnits}
-use Rattle.ailment.specs.Ailments.{frontLine, ailmentOf}
+use Rattle.text.specs.Ailments.{frontLine, ailmentOf}
 use Rattle.model.specs.Refusals.{refusal}
 
 judged-stop : (v : ℕ) (job : Job) (s : List ℕ) (place : ℕ) → (v ≡ 0 → ⊥) → judged v job s place ≡ stop (refusal v place)

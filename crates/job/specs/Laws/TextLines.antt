@@ -9,7 +9,7 @@ use native.Mathlib.Omega.{arith}
 use borrow.Author.Tests.{ne-eqb, eqb-false}
 use lib.Dec.{eqb}
 use lib.ListN.{take}
-use Rattle.ailment.specs.Ailments.{frontLine}
+use Rattle.text.specs.Ailments.{frontLine}
 use Rattle.model.specs.Laws.Tests.{neither}
 use Rattle.model.specs.Shares.{pick}
 use Rattle.model.specs.declared.Limit.{Limit}

@@ -1,4 +1,4 @@
--- The exported narrowing answers what group::narrow does, and leaves the same lists. Assumes nothing.
+-- The exported narrowing answers what narrowing::narrow does, and leaves the same lists. Assumes nothing.
 use borrow.Author.Needs.{needs}
 use Rattle.planner.proofs.danivomel_narrow.Statement.{statement}
 use Rattle.planner.proofs.danivomel_narrow.Tie as tie

@@ -1,3 +1,0 @@
-pub mod Ailments
-pub mod Sentences
-pub mod Laws

@@ -1,0 +1,4 @@
+pub mod Narrowing
+pub mod Answers
+pub mod Promises
+pub mod Laws
