@@ -1,10 +1,9 @@
 // The report of a settled job.
 use model::Refusal;
 
-pub mod calls;
+pub mod answers;
 pub mod group_lines;
 pub mod lines;
-pub mod program;
 
 // What reporting answers: the length of the report written, and the passes; or no plan, with the refusal's number (11 or 12), its place
 // (the group) and the passes; or refused before any pass.

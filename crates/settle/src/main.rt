@@ -4,7 +4,7 @@ use console::Input;
 use console::job_text;
 use console::read_input;
 use libc::STDOUT_FILENO;
-use report::program::print_job;
+use reporting::program::print_job;
 
 // Writes what is printed of a job text to standard output.
 fn write_printed(text: &[u8]) {

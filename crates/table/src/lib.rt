@@ -89,7 +89,7 @@ fn settle_bounds(text: &[u8], bounds: Bounds, scratch: &mut [u64]) -> SettledBou
     let mut lows = bounds.lows;
     let mut highs = bounds.highs;
     let count = bounds.count;
-    let answer = works::calls::settle(text, &mut lows[..count], &mut highs[..count], scratch);
+    let answer = settling::calls::settle(text, &mut lows[..count], &mut highs[..count], scratch);
     let after = Bounds { lows, highs, count };
     SettledBounds {
         bounds: after,
@@ -97,7 +97,7 @@ fn settle_bounds(text: &[u8], bounds: Bounds, scratch: &mut [u64]) -> SettledBou
     }
 }
 
-// Settles a job text over a table, as works::calls::settle does over its lows and highs.
+// Settles a job text over a table, as settling::calls::settle does over its lows and highs.
 pub fn settle(text: &[u8], table: &mut [Range], scratch: &mut [u64]) -> Settling
     ensures { λ r. ⌜ settlement r (lowsIn (now (table .exit))) (highsIn (now (table .exit))) ≡ settleText (now (text .entry)) (lowsIn (now (table .entry))) (highsIn (now (table .entry))) (length (now (scratch .entry))) ⌝ }
 {
@@ -126,7 +126,7 @@ fn report_bounds(
     let mut lows = bounds.lows;
     let mut highs = bounds.highs;
     let count = bounds.count;
-    let answer = report::calls::report(
+    let answer = reporting::calls::report(
         text,
         &mut lows[..count],
         &mut highs[..count],
@@ -140,7 +140,7 @@ fn report_bounds(
     }
 }
 
-// Settles a job text over a table and writes its report, as report::calls::report does over its lows and highs.
+// Settles a job text over a table and writes its report, as reporting::calls::report does over its lows and highs.
 pub fn report(text: &[u8], table: &mut [Range], scratch: &mut [u64], buffer: &mut [u8]) -> Reporting
     ensures { λ r. ⌜ reported r (lowsIn (now (table .exit))) (highsIn (now (table .exit))) (now (buffer .exit)) ≡ reportText (now (text .entry)) (lowsIn (now (table .entry))) (highsIn (now (table .entry))) (length (now (scratch .entry))) (now (buffer .entry)) ⌝ }
 {

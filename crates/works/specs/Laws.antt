@@ -6,7 +6,6 @@ pub mod Inside
 pub mod Turns
 pub mod Shut
 pub mod Writing
-pub mod Turning
 pub mod Passes
 pub mod Running
 pub mod Ends

@@ -1,11 +1,9 @@
-// Settling: many groups over shared units.
+// Many groups over shared units: what settling means, the table that it narrows, and the checks ahead of it.
 use model::Refusal;
 
-pub mod calls;
+pub mod checks;
 pub mod members;
-pub mod passes;
 pub mod tables;
-pub mod turns;
 
 // What settling answers: settled after so many passes; or no plan, with the refusal's number (11 or 12), its place
 // (the group) and the passes; or refused before any pass.

@@ -9,7 +9,7 @@ use job::Reading;
 use job::scan_groups;
 use model::Refusal;
 use print::put_word;
-use works::calls::check_table;
+use works::checks::check_table;
 ghost use Prim.Native.Nat.{_≤_};
 ghost use mathlib.Core.List.{_++_};
 ghost use mathlib.Core.Path.{_≡_};

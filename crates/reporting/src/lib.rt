@@ -1,0 +1,3 @@
+// Reporting a job text: settled, and what the settling answers written into a buffer.
+pub mod calls;
+pub mod program;

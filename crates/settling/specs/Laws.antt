@@ -1,0 +1,2 @@
+-- The laws, a file for each topic.
+pub mod Turning
