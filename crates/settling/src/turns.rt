@@ -33,14 +33,9 @@ pub fn take_turn(
     let end = from + group.count;
     let marks = MARKS;
     let behind = marks + lows.len();
-    let count = gather_running(
-        &flat[from..end],
-        &flat[marks..behind],
-        lows,
-        highs,
-        member_lows,
-        member_highs,
-    );
+    let members = &flat[from..end];
+    let marked = &flat[marks..behind];
+    let count = gather_running(members, marked, lows, highs, member_lows, member_highs);
     let limits = group.limits;
     let question = Question {
         total: group.total,
@@ -51,13 +46,6 @@ pub fn take_turn(
         &mut member_highs[..count],
         question,
     );
-    scatter_running(
-        &flat[from..end],
-        &flat[marks..behind],
-        lows,
-        highs,
-        member_lows,
-        member_highs,
-    );
+    scatter_running(members, marked, lows, highs, member_lows, member_highs);
     turn
 }

@@ -23,32 +23,32 @@ add-end c = search needs
 add-behind : tie.Need-add-behind
 add-behind c = search needs
 
-mul-gather-running : tie.Need-mul-gather-running
-mul-gather-running c = search needs
+mul-members : tie.Need-mul-members
+mul-members c = search needs
 
-sub-gather-running : tie.Need-sub-gather-running
-sub-gather-running c = search needs
+sub-members : tie.Need-sub-members
+sub-members c = search needs
 
-part-gather-running-start : tie.Need-part-gather-running-start
-part-gather-running-start c = search needs
+part-members-start : tie.Need-part-members-start
+part-members-start c = search needs
 
-part-gather-running-end : tie.Need-part-gather-running-end
-part-gather-running-end c = search needs
+part-members-end : tie.Need-part-members-end
+part-members-end c = search needs
 
-mul-gather-running-2 : tie.Need-mul-gather-running-2
-mul-gather-running-2 c = search needs
+mul-marked : tie.Need-mul-marked
+mul-marked c = search needs
 
-sub-gather-running-2 : tie.Need-sub-gather-running-2
-sub-gather-running-2 c = search needs
+sub-marked : tie.Need-sub-marked
+sub-marked c = search needs
 
-part-gather-running-start-2 : tie.Need-part-gather-running-start-2
-part-gather-running-start-2 c = search needs
+part-marked-start : tie.Need-part-marked-start
+part-marked-start c = search needs
 
-part-gather-running-end-2 : tie.Need-part-gather-running-end-2
-part-gather-running-end-2 c = search needs
+part-marked-end : tie.Need-part-marked-end
+part-marked-end c = search needs
 
 -- what is asked, seen from the call that gathers
-module _ (c : tie.After-gather-running-arg6) where
+module _ (c : tie.After-gather-running-arg4) where
   abbrev start : tie.Start
   start = c .before .before .before .before .before .before .before .before .before .before .before .before
 
@@ -120,30 +120,6 @@ slice-aggregate-narrow-core-2 c = sym (length-take-le _ _ (slice-relend-prefix-n
 narrow-core-requires : tie.Need-narrow-core-requires
 narrow-core-requires c κs = let g = c .before .before .before .before .before .before .before in gathered-sound (start (g .before) .pre .0) _ (lows-are g) (highs-are g)
 
-mul-scatter-running : tie.Need-mul-scatter-running
-mul-scatter-running c = search needs
-
-sub-scatter-running : tie.Need-sub-scatter-running
-sub-scatter-running c = search needs
-
-part-scatter-running-start : tie.Need-part-scatter-running-start
-part-scatter-running-start c = search needs
-
-part-scatter-running-end : tie.Need-part-scatter-running-end
-part-scatter-running-end c = search needs
-
-mul-scatter-running-2 : tie.Need-mul-scatter-running-2
-mul-scatter-running-2 c = search needs
-
-sub-scatter-running-2 : tie.Need-sub-scatter-running-2
-sub-scatter-running-2 c = search needs
-
-part-scatter-running-start-2 : tie.Need-part-scatter-running-start-2
-part-scatter-running-start-2 c = search needs
-
-part-scatter-running-end-2 : tie.Need-part-scatter-running-end-2
-part-scatter-running-end-2 c = omega (arith, start (c .before .before .before .before .before .before .before .before .before .before .before .before .before .before) .pre .1 .0 .marked)
-
 -- the working lists keep their lengths
 module _ (c : tie.After-narrow-core) where
   abbrev gathering : tie.After-gather-running
@@ -160,7 +136,7 @@ module _ (c : tie.After-narrow-core) where
 
 scatter-running-requires : tie.Need-scatter-running-requires
 scatter-running-requires c κs =
-    let n = c .before .before .before .before .before .before .before .before .before .before in
+    let n = c .before .before .before .before .before .before .before .before in
     let asked = gathering n .before in (
       members-listed (start asked .pre .0) (same-members asked) (many-marks asked),
       record { forLows = omega (arith, low-sizes n, low-room (gathering n)); forHighs = omega (arith, high-sizes n, high-room (gathering n)) },
@@ -173,14 +149,14 @@ same-length-2 : tie.Need-same-length-2
 same-length-2 c = search needs
 
 same-length-3 : tie.Need-same-length-3
-same-length-3 c = let n = c .before .before .before .before .before .before .before .before .before .before .before .before .before .before .before in omega (arith, low-sizes n, gathering n .gather-running .kept .1 .1 .1 .1 .0)
+same-length-3 c = let n = c .before .before .before .before .before .before .before .before .before .before .before .before .before in omega (arith, low-sizes n, gathering n .gather-running .kept .1 .1 .1 .1 .0)
 
 same-length-4 : tie.Need-same-length-4
-same-length-4 c = let n = c .before .before .before .before .before .before .before .before .before .before .before .before .before .before .before in omega (arith, high-sizes n, gathering n .gather-running .kept .1 .1 .1 .1 .1 .0)
+same-length-4 c = let n = c .before .before .before .before .before .before .before .before .before .before .before .before .before in omega (arith, high-sizes n, gathering n .gather-running .kept .1 .1 .1 .1 .1 .0)
 
 returns : tie.Need-returns
 returns c =
-    let n = c .before .before .before .before .before .before .before .before .before .before .before .before .before .before .before in
+    let n = c .before .before .before .before .before .before .before .before .before .before .before .before .before in
     let asked = gathering n .before in
     turn-running (table asked) (whole asked) (marks asked) (same-members asked) (same-marks asked) (gathering n .gather-running .ensures)
     (n .narrow-core .result) _ _ (n .narrow-core .ensures) (n .narrow-core .kept .0) (n .narrow-core .kept .1 .0)
@@ -192,28 +168,20 @@ take-turn-spec =
     (tie.spec
     add-end
     add-behind
-    mul-gather-running
-    sub-gather-running
-    part-gather-running-start
-    part-gather-running-end
-    mul-gather-running-2
-    sub-gather-running-2
-    part-gather-running-start-2
-    part-gather-running-end-2
+    mul-members
+    sub-members
+    part-members-start
+    part-members-end
+    mul-marked
+    sub-marked
+    part-marked-start
+    part-marked-end
     gather-running-requires
     slice-relend-prefix-narrow-core
     slice-aggregate-narrow-core
     slice-relend-prefix-narrow-core-2
     slice-aggregate-narrow-core-2
     narrow-core-requires
-    mul-scatter-running
-    sub-scatter-running
-    part-scatter-running-start
-    part-scatter-running-end
-    mul-scatter-running-2
-    sub-scatter-running-2
-    part-scatter-running-start-2
-    part-scatter-running-end-2
     scatter-running-requires
     same-length
     same-length-2
