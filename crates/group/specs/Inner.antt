@@ -2,3 +2,4 @@
 pub mod Searching
 pub mod Shared
 pub mod Units
+pub mod Members

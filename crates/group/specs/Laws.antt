@@ -8,3 +8,7 @@ pub mod Promises
 pub mod Shared
 pub mod Summing
 pub mod Units
+pub mod Inside
+pub mod Members
+pub mod Parts
+pub mod Writing

@@ -1,3 +1,4 @@
+pub mod Tables
 pub mod Checks
 pub mod First
 pub mod Findings

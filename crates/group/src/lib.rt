@@ -21,8 +21,10 @@ ghost use Rattle.group.specs.Levelling.{levelledTo, levelling, planAfter
 
 pub mod checks;
 mod levels;
+pub mod members;
 pub mod plans;
 pub mod shares;
+pub mod tables;
 
 // What the checks on a group's lists answer.
 pub enum Check {

@@ -2,11 +2,11 @@
 use crate::lines::put_levelled_line;
 use group::Levelling;
 use group::level_core;
+use group::members::gather;
 use groups::MARKS;
 use groups::Stored;
 use groups::group_at;
 use model::lists::room;
-use works::members::gather;
 ghost use Prim.Native.Nat.{_≤_};
 ghost use mathlib.Core.List.{flatten};
 ghost use mathlib.Core.Path.{_≡_};
@@ -19,7 +19,7 @@ ghost use Rattle.report.specs.Reportable.{Levelable};
 ghost use Rattle.report.specs.Inner.Asked.{LevelledIn, LevelMembers, Printable};
 ghost use Rattle.report.specs.Reports.{groupLines};
 ghost use Rattle.works.specs.Inner.Asked.{HoldsMembers};
-ghost use Rattle.works.specs.Tables.{Named, gather, tableOf};
+ghost use Rattle.group.specs.Tables.{Named, gather, tableOf};
 ghost use Rattle.model.specs.Shares.{mostUnits};
 
 // Writes the members' entries over the front of a list.

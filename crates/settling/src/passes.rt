@@ -1,20 +1,21 @@
 // Passes over all groups, until one changes nothing.
 use crate::turns::take_turn;
+use group::tables::restore;
+use group::tables::save;
+use group::tables::width_of;
 use groups::group_at;
 use model::Turn;
 use model::lists::room;
 use works::Settling;
-use works::tables::restore;
-use works::tables::save;
-use works::tables::width_of;
 ghost use Prim.Native.Nat.{_+_, _≤_};
 ghost use mathlib.Core.Path.{_≡_};
 ghost use lib.ListN.{length};
 ghost use Rattle.model.specs.Known.{refusedBy};
 ghost use Rattle.works.specs.Answers.{answerOf, tableAfter};
-ghost use Rattle.works.specs.Inner.Asked.{MemberRoom, Opening, runningIn};
+ghost use Rattle.group.specs.Inner.Members.{MemberRoom};
+ghost use Rattle.works.specs.Inner.Asked.{Opening, runningIn};
 ghost use Rattle.works.specs.Settling.{settle};
-ghost use Rattle.works.specs.Tables.{tableOf};
+ghost use Rattle.group.specs.Tables.{tableOf};
 
 // The number that a turn refuses with; 0 where it narrows.
 fn number_of(turn: Turn) -> u64

@@ -7,7 +7,7 @@ use Rattle.group.specs.declared.Check.the-variants.{Passed}
 use Rattle.job.specs.Job.{Job, accepted, readJob}
 use Rattle.model.specs.Groups.{Group}
 use Rattle.works.specs.Calls.{Settlement, checkTable, settleText}
-use Rattle.works.specs.Tables.{Table, tableOf}
+use Rattle.group.specs.Tables.{Table, tableOf}
 use Rattle.works.specs.declared.Settling.{Settling}
 use Rattle.works.specs.declared.Settling.the-variants.{Settled, NoPlan, Refused}
 

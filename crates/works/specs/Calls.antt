@@ -14,7 +14,7 @@ use Rattle.model.specs.Groups.{Group}
 use Rattle.works.specs.Answers.{answerOf, tableAfter}
 use Rattle.works.specs.Resting.{runningGroups}
 use Rattle.works.specs.Settling.{Outcome, settle}
-use Rattle.works.specs.Tables.{Table, tableOf}
+use Rattle.group.specs.Tables.{Table, tableOf}
 use Rattle.works.specs.declared.Settling.{Settling}
 use Rattle.works.specs.declared.Settling.the-variants.{Refused}
 

@@ -1,11 +1,7 @@
 -- The laws of settling, a file for each topic.
-pub mod Members
 pub mod Sizes
-pub mod Parts
-pub mod Inside
 pub mod Turns
 pub mod Shut
-pub mod Writing
 pub mod Passes
 pub mod Running
 pub mod Ends

@@ -1,4 +1,3 @@
-pub mod Tables
 pub mod Settling
 pub mod Answers
 pub mod Calls

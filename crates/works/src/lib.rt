@@ -1,9 +1,7 @@
-// Many groups over shared units: what settling means, the table that it narrows, and the checks ahead of it.
+// Many groups over shared units: what settling means and answers, and the checks ahead of it.
 use model::Refusal;
 
 pub mod checks;
-pub mod members;
-pub mod tables;
 
 // What settling answers: settled after so many passes; or no plan, with the refusal's number (11 or 12), its place
 // (the group) and the passes; or refused before any pass.

@@ -21,7 +21,7 @@ use Rattle.works.specs.Laws.Called.{CallEnds, says, ends}
 use Rattle.works.specs.Laws.Checked.{Roomy, ranges-pass}
 use Rattle.works.specs.Resting.{runningGroups}
 use Rattle.works.specs.Settling.{settle}
-use Rattle.works.specs.Tables.{Table, tableOf}
+use Rattle.group.specs.Tables.{Table, tableOf}
 use Rattle.works.specs.declared.Settling.{Settling}
 use Rattle.report.specs.Calls.{Reported, reported, reportBy, reportText}
 use Rattle.report.specs.Lines.{refusalLine}

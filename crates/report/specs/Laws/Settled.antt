@@ -23,12 +23,12 @@ use Rattle.works.specs.Resting.{ShutOpening, marksOf, runningGroups, PlanFrom}
 use Rattle.works.specs.Laws.Checked.{passed-room, passed-ranges, passed-marked}
 use Rattle.works.specs.Laws.Resting.{members-marked, running-sound, settled-opening, settled-rest}
 use Rattle.works.specs.Laws.Sizes.{size-few}
-use Rattle.works.specs.Laws.Inside.{widths-sums}
-use Rattle.works.specs.Laws.Members.{gather-length}
+use Rattle.group.specs.Laws.Inside.{widths-sums}
+use Rattle.group.specs.Laws.Members.{gather-length}
 use Rattle.works.specs.Laws.Settled.{settled-inside, passes-bound}
 use Rattle.works.specs.Laws.Turns.{gathered}
 use Rattle.works.specs.Settling.{Outcome, passesOf, settle}
-use Rattle.works.specs.Tables.{Table, tableOf, units, lowsOf, highsOf}
+use Rattle.group.specs.Tables.{Table, tableOf, units, lowsOf, highsOf}
 use Rattle.works.specs.declared.Settling.{Settling}
 use Rattle.works.specs.declared.Settling.the-variants as works
 use Rattle.report.specs.Laws.Evenness.{levelled-evenest}

@@ -23,7 +23,7 @@ use Rattle.works.specs.Answers.{answerOf, tableAfter}
 use Rattle.works.specs.Calls.{Settlement, settlement, checkTable, settledAfter, leaving, settleJob, settleText}
 use Rattle.works.specs.Resting.{runningGroups}
 use Rattle.works.specs.Settling as works
-use Rattle.works.specs.Tables.{Table, tableOf}
+use Rattle.group.specs.Tables.{Table, tableOf}
 use Rattle.works.specs.declared.Settling.{Settling}
 use Rattle.works.specs.declared.Settling.the-variants as settling
 use Rattle.writer.specs.Calls.{writeOver, writeText}

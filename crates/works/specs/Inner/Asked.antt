@@ -2,20 +2,15 @@
 use Prim.Native.Nat.{ℕ, _+_, _≤_}
 use mathlib.Core.List.{List, List·Memᴰ}
 use mathlib.Core.Path.{_≡_}
-use lib.ListN.{length, take}
+use lib.ListN.{length}
 use Rattle.model.specs.Shares.{mostUnits}
 use Rattle.model.specs.Groups.{Group}
-use Rattle.model.specs.Running.{running}
 use Rattle.works.specs.Consistency.{SoundOpening}
 use Rattle.groups.specs.Inner.Flat.{marksFrom, marksIn, groupsIn, Holds}
 use Rattle.groups.specs.declared.Stored.{Stored}
 use Rattle.works.specs.Resting.{runningGroups}
-use Rattle.works.specs.Tables.{Table, Valid, Named, units, gather}
+use Rattle.group.specs.Tables.{Table, Valid, units}
 use Rattle.groups.specs.Memberships.{SoundMembers}
-
--- those of some members that run, by the marks of the units
-abbrev pub runningMembers : List ℕ → List ℕ → List ℕ
-runningMembers marks members = running (gather marks members) members
 
 -- the running groups of a flat list, so many over so many units
 abbrev pub runningIn : ℕ → ℕ → List ℕ → List Group
@@ -26,24 +21,6 @@ pub record Turning (table : Table) (group : Group) : Type 0 where
   pub valid : Valid table
   pub few : units table ≤ mostUnits
   pub sound : SoundMembers (units table) group
-
--- each of at most 256 members has a mark and a range
-pub record Listed (members marks lows highs : List ℕ) : Type 0 where
-  pub few : length members ≤ mostUnits
-  pub forMarks : Named (length marks) members
-  pub forLows : Named (length lows) members
-  pub forHighs : Named (length highs) members
-
--- working lists with room for every group
-pub record MemberRoom (lows highs : List ℕ) : Type 0 where
-  pub forLows : mostUnits ≤ length lows
-  pub forHighs : mostUnits ≤ length highs
-
--- the ranges of the running members, so many, are the first of two working lists
-pub record RunningGathered (members marks lows highs memberLows memberHighs : List ℕ) (count : ℕ) : Type 0 where
-  pub few : count ≤ length members
-  pub lowsAre : take count memberLows ≡ gather lows (runningMembers marks members)
-  pub highsAre : take count memberHighs ≡ gather highs (runningMembers marks members)
 
 -- a flat list holds a group's members and the marks of so many units
 pub record HoldsMembers (flat : List ℕ) (group : Stored) (unitCount : ℕ) : Type 0 where

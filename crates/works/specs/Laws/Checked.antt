@@ -24,7 +24,7 @@ use Rattle.groups.specs.Inner.Flat.{groupsIn, marksIn}
 use Rattle.works.specs.Inner.Asked.{Opening, Prepared, runningIn}
 use Rattle.works.specs.Resting.{runningGroups}
 use Rattle.works.specs.Settling.{settle}
-use Rattle.works.specs.Tables.{tableOf}
+use Rattle.group.specs.Tables.{tableOf}
 use Rattle.works.specs.declared.Settling.{Settling}
 use Rattle.works.specs.declared.Settling.the-variants.{Refused}
 

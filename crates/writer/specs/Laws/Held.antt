@@ -22,7 +22,7 @@ use Rattle.model.specs.declared.Refusal.{Refusal}
 use Rattle.works.specs.Called.{firstOf}
 use Rattle.works.specs.Calls.{checkTable}
 use Rattle.works.specs.Laws.Checked.{passed-room, passed-ranges, passed-marked}
-use Rattle.works.specs.Tables.{Table, Valid, units}
+use Rattle.group.specs.Tables.{Table, Valid, units}
 use Rattle.writer.specs.Calls.{writtenText, writeJob, writeOver, writeText}
 use Rattle.writer.specs.Inner.Asked.{jobHeld, HeldGroups}
 use Rattle.writer.specs.Laws.Writes.{over-passed}

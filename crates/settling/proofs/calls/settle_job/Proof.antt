@@ -8,7 +8,7 @@ use lib.ListN.{length, take, drop}
 use lib.Seq.{length-take-le}
 use Rattle.group.specs.declared.Check.the-variants.{Passed}
 use Rattle.groups.specs.Inner.Flat.{marksFrom, marksIn}
-use Rattle.works.specs.Laws.Parts.{part}
+use Rattle.group.specs.Laws.Parts.{part}
 use Rattle.works.specs.Calls.{checkTable}
 use Rattle.works.specs.Laws.Checked.{Roomy, passed-room, passed-opening, passed-settles, failed-refuses}
 use Rattle.settling.proofs.calls.settle_job.Statement.{statement}

@@ -9,7 +9,7 @@ use Rattle.group.specs.declared.Check.the-variants.{Passed}
 use Rattle.groups.specs.Inner.Flat.{groupsIn, marksFrom, marksIn}
 use Rattle.works.specs.Calls.{checkTable}
 use Rattle.works.specs.Laws.Checked.{Roomy, passed-room}
-use Rattle.works.specs.Laws.Parts.{part}
+use Rattle.group.specs.Laws.Parts.{part}
 use Rattle.writer.specs.Laws.Held.{held-room, held-sound, held-writes}
 use Rattle.writer.specs.Laws.Writes.{over-failed}
 use Rattle.writer.proofs.calls.write_over.Statement.{statement}

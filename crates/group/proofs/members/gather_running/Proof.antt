@@ -4,9 +4,9 @@ use mathlib.Core.Logic.{⊎-elim}
 use native.Mathlib.Omega.{arith}
 use Prim.Native.Nat.{ℕ, _-_, _≤_, _<_}
 use lib.ListN.{length, getD}
-use Rattle.works.specs.Laws.Writing.{Gathered, gathered-none, gathered-more, gathered-skip, gathered-all}
-use Rattle.works.proofs.members.gather_running.Statement.{statement}
-use Rattle.works.proofs.members.gather_running.Tie as tie
+use Rattle.group.specs.Laws.Writing.{Gathered, gathered-none, gathered-more, gathered-skip, gathered-all}
+use Rattle.group.proofs.members.gather_running.Statement.{statement}
+use Rattle.group.proofs.members.gather_running.Tie as tie
 
 abbrev Inv-loop : tie.InvT-loop
 Inv-loop members marks lows highs member-lows₀ member-highs₀ count₀ k₀ member-lows member-highs count k =

@@ -10,8 +10,8 @@ use lib.ListN.{length, getD, set, take, drop, length-set, drop-of-length-le}
 use lib.Seq.{drop-cons, take-suc-set}
 use Rattle.model.specs.Laws.Running.{running-run, running-skip}
 use Rattle.model.specs.Running.{running}
-use Rattle.works.specs.Inner.Asked.{runningMembers}
-use Rattle.works.specs.Tables.{gather, scatter}
+use Rattle.group.specs.Inner.Members.{runningMembers}
+use Rattle.group.specs.Tables.{gather, scatter}
 
 -- a member that runs is the first of the running ones
 first-runs : (marks members : List ℕ) (m : ℕ) → getD marks m 0 ≡ 0 → runningMembers marks (m ∷ members) ≡ m ∷ runningMembers marks members

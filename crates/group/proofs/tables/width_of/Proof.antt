@@ -6,10 +6,10 @@ use Prim.Native.Nat.{_+_, _-_, _≤_}
 use lib.ListN.{length, drop, drop-of-length-le}
 use Rattle.model.specs.Laws.Sound.{highs-small}
 use Rattle.model.specs.Laws.Lists.{ranges-at}
-use Rattle.works.specs.Tables.{widths}
-use Rattle.works.specs.Laws.Inside.{widths-sums, widths-walk}
-use Rattle.works.proofs.tables.width_of.Statement.{statement}
-use Rattle.works.proofs.tables.width_of.Tie as tie
+use Rattle.group.specs.Tables.{widths}
+use Rattle.group.specs.Laws.Inside.{widths-sums, widths-walk}
+use Rattle.group.proofs.tables.width_of.Statement.{statement}
+use Rattle.group.proofs.tables.width_of.Tie as tie
 
 abbrev Inv-loop : tie.InvT-loop
 Inv-loop lows highs width₀ i₀ width i = (i ≤ length lows) × (width + widths (drop i lows) (drop i highs) ≡ widths lows highs)

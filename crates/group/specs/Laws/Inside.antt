@@ -14,7 +14,7 @@ use Rattle.model.specs.Known.{sameList}
 use Rattle.model.specs.Laws.Lists.{sum-le}
 use Rattle.model.specs.Laws.Tests.{both-left, both-right}
 use Rattle.model.specs.Shares.{Ranges, sum}
-use Rattle.works.specs.Tables.{Table, Valid, sameTable, widths, width, Inside}
+use Rattle.group.specs.Tables.{Table, Valid, sameTable, widths, width, Inside}
 
 -- a table lies inside itself
 pub inside-refl : (table : Table) → Inside table table

@@ -8,7 +8,7 @@ use native.Mathlib.Nat.{le-of-suc-le-suc, suc-inj}
 use native.Mathlib.Omega.{arith}
 use lib.ListN.{length, getD, set, length-set}
 use lib.Seq.{getD-set-same, getD-set-other}
-use Rattle.works.specs.Tables.{Place, gather, scatter}
+use Rattle.group.specs.Tables.{Place, gather, scatter}
 
 -- as many entries as members
 pub gather-length : (entries members : List ℕ) → length (gather entries members) ≡ length members

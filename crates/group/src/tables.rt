@@ -5,7 +5,7 @@ ghost use mathlib.Core.List.{_++_};
 ghost use mathlib.Core.Path.{_≡_};
 ghost use lib.ListN.{length, take, drop};
 ghost use Rattle.model.specs.Sound.{SoundRanges};
-ghost use Rattle.works.specs.Tables.{widths};
+ghost use Rattle.group.specs.Tables.{widths};
 
 // The sum of high − low.
 pub fn width_of(lows: &[u64], highs: &[u64]) -> u64

@@ -4,9 +4,9 @@ use mathlib.Core.Logic.{⊎-elim}
 use native.Mathlib.Omega.{arith}
 use Prim.Native.Nat.{ℕ, _-_, _≤_, _<_}
 use lib.ListN.{length, getD}
-use Rattle.works.specs.Laws.Writing.{Scattered, scattered-none, scattered-more, scattered-skip, scattered-all}
-use Rattle.works.proofs.members.scatter_running.Statement.{statement}
-use Rattle.works.proofs.members.scatter_running.Tie as tie
+use Rattle.group.specs.Laws.Writing.{Scattered, scattered-none, scattered-more, scattered-skip, scattered-all}
+use Rattle.group.proofs.members.scatter_running.Statement.{statement}
+use Rattle.group.proofs.members.scatter_running.Tie as tie
 
 abbrev Inv-loop : tie.InvT-loop
 Inv-loop members marks lows₀ highs₀ member-lows member-highs count₀ k₀ lows highs count k =

@@ -3,9 +3,9 @@ use borrow.Author.Needs.{needs}
 use mathlib.Core.Path.{sym, _∙_}
 use lib.ListN.{length}
 use lib.Seq.{length-take-le}
-use Rattle.works.specs.Laws.Parts.{part}
-use Rattle.works.proofs.tables.restore.Statement.{statement}
-use Rattle.works.proofs.tables.restore.Tie as tie
+use Rattle.group.specs.Laws.Parts.{part}
+use Rattle.group.proofs.tables.restore.Statement.{statement}
+use Rattle.group.proofs.tables.restore.Tie as tie
 
 add-end : tie.Need-add-end
 add-end c = search needs

@@ -2,8 +2,8 @@
 use model::RUNNING;
 ghost use mathlib.Core.Path.{_≡_};
 ghost use lib.ListN.{length};
-ghost use Rattle.works.specs.Inner.Asked.{Listed, MemberRoom, RunningGathered, runningMembers};
-ghost use Rattle.works.specs.Tables.{Named, gather, scatter};
+ghost use Rattle.group.specs.Inner.Members.{Listed, MemberRoom, RunningGathered, runningMembers};
+ghost use Rattle.group.specs.Tables.{Named, gather, scatter};
 
 // Writes the members' entries over a list.
 pub fn gather(entries: &[u64], members: &[u64], out: &mut [u64])

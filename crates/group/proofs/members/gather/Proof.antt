@@ -4,11 +4,11 @@ use native.Mathlib.Omega.{arith}
 use Prim.Native.Nat.{_-_, _≤_}
 use lib.ListN.{length}
 use mathlib.Core.Path.{sym}
-use Rattle.works.specs.Tables.{gather}
-use Rattle.works.specs.Laws.Members.{gather-length, gather-at}
+use Rattle.group.specs.Tables.{gather}
+use Rattle.group.specs.Laws.Members.{gather-length, gather-at}
 use Rattle.model.specs.Laws.Writing.{Filled, filled-none, filled-more, filled-all}
-use Rattle.works.proofs.members.gather.Statement.{statement}
-use Rattle.works.proofs.members.gather.Tie as tie
+use Rattle.group.proofs.members.gather.Statement.{statement}
+use Rattle.group.proofs.members.gather.Tie as tie
 
 abbrev Inv-loop : tie.InvT-loop
 Inv-loop entries members out₀ k₀ out k = Filled (gather entries members) out₀ out k × (k ≤ length members)

@@ -2,9 +2,9 @@
 use borrow.Author.Needs.{needs}
 use mathlib.Core.Path.{sym}
 use lib.Seq.{length-take-le}
-use Rattle.works.specs.Laws.Parts.{saved}
-use Rattle.works.proofs.tables.save.Statement.{statement}
-use Rattle.works.proofs.tables.save.Tie as tie
+use Rattle.group.specs.Laws.Parts.{saved}
+use Rattle.group.proofs.tables.save.Statement.{statement}
+use Rattle.group.proofs.tables.save.Tie as tie
 
 add-end : tie.Need-add-end
 add-end c = search needs
