@@ -12,8 +12,8 @@ use model::SHUT;
 use model::Share;
 ghost use mathlib.Core.Path.{_≡_};
 ghost use lib.ListN.{length};
-ghost use Rattle.group.specs.Checks.{areShares, unitWithin, unitOrdered, firstBeyond, firstCrossed, sized, amountsWithin, refuseIf, checkLists};
-ghost use Rattle.group.specs.Inner.Units.{unitSound, allSound};
+ghost use Rattle.group.specs.Checks.{areShares, unitWithin, unitOrdered, firstFailing, sized, amountsWithin, refuseIf, checkLists};
+ghost use Rattle.group.specs.Inner.Units.{unitClear, unitSound, allSound};
 ghost use Rattle.group.specs.declared.Check.the-variants.{Passed};
 ghost use mathlib.Core.Bool.{true};
 
@@ -53,29 +53,25 @@ fn is_ordered(low: u64, high: u64, mark: u64) -> bool
     high == 0
 }
 
-// The place of the first unit with a number beyond its range; 0 where there is none.
-fn first_beyond(lows: &[u64], highs: &[u64], marks: &[u64]) -> u64
-    requires { ⌜ (length (now highs) ≡ length (now lows)) × (length (now marks) ≡ length (now lows)) ⌝ }
-    ensures { λ r. ⌜ r ≡ firstBeyond (now (lows .entry)) (now (highs .entry)) (now (marks .entry)) ⌝ }
+// Whether a unit's numbers are in order where that is asked, and else whether they are in their ranges.
+fn is_clear(ordered: bool, low: u64, high: u64, mark: u64) -> bool
+    ensures { λ r. ⌜ r ≡ unitClear ordered low high mark ⌝ }
 {
-    let mut i: usize = 0;
-    while i < lows.len() {
-        if !is_within(lows[i], highs[i], marks[i]) {
-            return i as u64 + 1;
-        }
-        i += 1;
+    if ordered {
+        return is_ordered(low, high, mark);
     }
-    0
+    is_within(low, high, mark)
 }
 
-// The place of the first unit with low above high, or shut and not 0 to 0; 0 where there is none.
-fn first_crossed(lows: &[u64], highs: &[u64], marks: &[u64]) -> u64
+// The place of the first unit with low above high, or shut and not 0 to 0, where order is asked, and else of the first
+// with a number beyond its range; 0 where there is none.
+fn first_failing(lows: &[u64], highs: &[u64], marks: &[u64], ordered: bool) -> u64
     requires { ⌜ (length (now highs) ≡ length (now lows)) × (length (now marks) ≡ length (now lows)) ⌝ }
-    ensures { λ r. ⌜ r ≡ firstCrossed (now (lows .entry)) (now (highs .entry)) (now (marks .entry)) ⌝ }
+    ensures { λ r. ⌜ r ≡ firstFailing (unitClear ordered) 1 (now (lows .entry)) (now (highs .entry)) (now (marks .entry)) ⌝ }
 {
     let mut i: usize = 0;
     while i < lows.len() {
-        if !is_ordered(lows[i], highs[i], marks[i]) {
+        if !is_clear(ordered, lows[i], highs[i], marks[i]) {
             return i as u64 + 1;
         }
         i += 1;
@@ -168,14 +164,14 @@ pub fn check_lists(lows: &[u64], highs: &[u64], marks: &[u64], room: usize, amou
         }
         return refused(4, 0);
     }
-    let beyond = first_beyond(lows, highs, marks);
+    let beyond = first_failing(lows, highs, marks, false);
     if 0 < beyond {
         return refused(4, beyond);
     }
     if !amounts {
         return refused(4, 0);
     }
-    let crossed = first_crossed(lows, highs, marks);
+    let crossed = first_failing(lows, highs, marks, true);
     if 0 < crossed {
         return refused(7, crossed);
     }

@@ -1,9 +1,14 @@
--- Units that the checks find nothing wrong with. Assumes nothing.
+-- Units that a check finds nothing wrong with. Assumes nothing.
 use Prim.Native.Nat.{ℕ}
-use mathlib.Core.Bool.{Bool, _&&_}
+use mathlib.Core.Bool.{Bool, true, false, _&&_}
 use mathlib.Core.List.{List}
 use lib.Dec.{eqb}
 use Rattle.group.specs.Checks.{unitWithin, unitOrdered, firstFailing}
+
+-- a unit's numbers are in order where that is asked, and else in their ranges
+abbrev pub unitClear : Bool → ℕ → ℕ → ℕ → Bool
+unitClear true = unitOrdered
+unitClear false = unitWithin
 
 -- a unit's numbers are in their ranges and in order
 abbrev pub unitSound : ℕ → ℕ → ℕ → Bool

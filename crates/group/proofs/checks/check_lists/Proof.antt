@@ -62,8 +62,8 @@ returns-3 c =
     let e = c .before .before in
     rw (passed-1 (e .before .before), none-wrong e .0, c .before .if3 .left) (c .refused2 .ensures)
 
-first-beyond-requires : tie.Need-first-beyond-requires
-first-beyond-requires c κs = paired (c .before .before)
+first-failing-requires : tie.Need-first-failing-requires
+first-failing-requires c κs = paired (c .before .before)
 
 refused-requires-3 : tie.Need-refused-requires-3
 refused-requires-3 c κs = search needs
@@ -73,7 +73,7 @@ unfolding checkLists
 returns-4 c =
     rw (
       passed-1 (c .before .before .before .before .before),
-      ← c .before .before .first-beyond .ensures,
+      ← c .before .before .first-failing .ensures,
       lt-ltb 0 _ (c .before .if4 .taken),
     )
     (c .refused3 .ensures)
@@ -84,7 +84,7 @@ module _ (c : tie.Else4) where
   sizes-held = c .before .before .before .before
 
   passed-2 : ltb 0 (firstBeyond (start sizes-held .args .lows .now) (start sizes-held .args .highs .now) (start sizes-held .args .marks .now)) ≡ false
-  passed-2 = rw (← c .before .first-beyond .ensures) (le-ltb 0 _ (c .if4 .left))
+  passed-2 = rw (← c .before .first-failing .ensures) (le-ltb 0 _ (c .if4 .left))
 
 refused-requires-4 : tie.Need-refused-requires-4
 refused-requires-4 c κs = search needs
@@ -96,8 +96,8 @@ returns-5 c =
     let e = sizes-held within in
     rw (passed-1 e, passed-2 within, not-true (start e .args .amounts) (c .before .if5 .taken)) (c .refused4 .ensures)
 
-first-crossed-requires : tie.Need-first-crossed-requires
-first-crossed-requires c κs = paired (sizes-held (c .before))
+first-failing-requires-2 : tie.Need-first-failing-requires-2
+first-failing-requires-2 c κs = paired (sizes-held (c .before))
 
 refused-requires-5 : tie.Need-refused-requires-5
 refused-requires-5 c κs = search needs
@@ -114,7 +114,7 @@ returns-6 c =
       passed-1 (sizes-held (e .before)),
       passed-2 (e .before),
       passed-3 e,
-      ← c .before .before .first-crossed .ensures,
+      ← c .before .before .first-failing2 .ensures,
       lt-ltb 0 _ (c .before .if6 .taken),
     )
     (c .refused5 .ensures)
@@ -127,7 +127,7 @@ returns-7 c =
       passed-1 (sizes-held (e .before)),
       passed-2 (e .before),
       passed-3 e,
-      ← c .before .first-crossed .ensures,
+      ← c .before .first-failing2 .ensures,
       le-ltb 0 _ (c .if6 .left),
     )
 
@@ -142,12 +142,12 @@ check-lists-spec =
     returns-2
     refused-requires-2
     returns-3
-    first-beyond-requires
+    first-failing-requires
     refused-requires-3
     returns-4
     refused-requires-4
     returns-5
-    first-crossed-requires
+    first-failing-requires-2
     refused-requires-5
     returns-6
     returns-7)
