@@ -84,16 +84,23 @@ module _ (t : ℕ) where
       done refl
       (next (digit _ _ _ (tenth .before .before .if1 .left) (start .pre .1) (tenth .put-number .ensures)) (c .before .before .put-byte2 .ensures))
 
+  closed : {M : Type 1} → lts.Closed called given put-number.Post M
+  closed =
+      lts.spec
+      called
+      given
+      put-number.Post
+      add-put-byte
+      cast-put-byte
+      put-byte-requires
+      same-length
+      returns
+      put-number-requires
+      add-put-byte-2
+      cast-put-byte-2
+      put-byte-requires-2
+      same-length-2
+      returns-2
+
 pub +put-number-spec : {M : Type 1} → statement M
-+put-number-spec = close μ λ t. lts.spec (called t) (given t) put-number.Post
-    (add-put-byte t)
-    (cast-put-byte t)
-    (put-byte-requires t)
-    (same-length t)
-    (returns t)
-    (put-number-requires t)
-    (add-put-byte-2 t)
-    (cast-put-byte-2 t)
-    (put-byte-requires-2 t)
-    (same-length-2 t)
-    (returns-2 t)
++put-number-spec = close μ λ t. closed t
