@@ -1,5 +1,6 @@
-// Standard input for the programs: a job text, read whole.
+// Standard input and output for the programs: a job text is read whole, and what fails is said on standard error.
 use libc::STDIN_FILENO;
+use libc::STDOUT_FILENO;
 ghost use Prim.Native.Nat.{_≤_};
 ghost use mathlib.Core.Path.{_≡_};
 ghost use lib.ListN.{length};
@@ -19,14 +20,15 @@ pub fn job_text() -> [u8; 65537]
 }
 
 // Reads standard input to its end, or until the list is full. A read that fails after others fails them all: a job cut
-// short at a line's end would pass for a whole one.
-pub fn read_input(text: &mut [u8]) -> Input
+// short at a line's end would pass for a whole one. It is said on standard error, with what the caller names.
+pub fn read_input(text: &mut [u8], what: &[u8]) -> Input
     ensures { λ r. ⌜ bytesRead r ≤ length (now (text .exit)) ⌝ }
 {
     let mut count: usize = 0;
     while count < text.len() {
         let got = libc::read(STDIN_FILENO, &mut text[count..]);
         if got < 0 {
+            os::fail(what);
             return Input::Failed;
         }
         let more = io::count(got, &text[count..]);
@@ -36,4 +38,11 @@ pub fn read_input(text: &mut [u8]) -> Input
         count += more;
     }
     Input::Read(count)
+}
+
+// Writes bytes to standard output; a write that fails is said on standard error, with what the caller names.
+pub fn write_output(bytes: &[u8], what: &[u8]) {
+    if !io::write_all(STDOUT_FILENO, bytes) {
+        os::fail(what);
+    }
 }

@@ -3,23 +3,15 @@
 use console::Input;
 use console::job_text;
 use console::read_input;
-use libc::STDOUT_FILENO;
+use console::write_output;
 use writer::program::hand_on;
-
-// Writes what is handed on of a job text to standard output.
-fn write_handed(text: &[u8]) {
-    let mut buffer = io::large_buffer();
-    let length = hand_on(text, &mut buffer);
-    if !io::write_all(STDOUT_FILENO, &buffer[..length]) {
-        os::fail(b"hand_on: standard output");
-    }
-}
 
 fn main() {
     let mut text = job_text();
-    let Input::Read(count) = read_input(&mut text) else {
-        os::fail(b"hand_on: standard input");
+    let Input::Read(count) = read_input(&mut text, b"hand_on: standard input") else {
         return;
     };
-    write_handed(&text[..count]);
+    let mut buffer = io::large_buffer();
+    let length = hand_on(&text[..count], &mut buffer);
+    write_output(&buffer[..length], b"hand_on: standard output");
 }

@@ -3,23 +3,15 @@
 use console::Input;
 use console::job_text;
 use console::read_input;
-use libc::STDOUT_FILENO;
+use console::write_output;
 use reporting::program::print_job;
-
-// Writes what is printed of a job text to standard output.
-fn write_printed(text: &[u8]) {
-    let mut buffer = io::large_buffer();
-    let length = print_job(text, &mut buffer);
-    if !io::write_all(STDOUT_FILENO, &buffer[..length]) {
-        os::fail(b"settle: standard output");
-    }
-}
 
 fn main() {
     let mut text = job_text();
-    let Input::Read(count) = read_input(&mut text) else {
-        os::fail(b"settle: standard input");
+    let Input::Read(count) = read_input(&mut text, b"settle: standard input") else {
         return;
     };
-    write_printed(&text[..count]);
+    let mut buffer = io::large_buffer();
+    let length = print_job(&text[..count], &mut buffer);
+    write_output(&buffer[..length], b"settle: standard output");
 }

@@ -8,11 +8,11 @@ use Rattle.console.proofs.read_input.Tie as tie
 
 -- the bytes read so far lie within the list, which keeps its length
 abbrev Inv-loop : tie.InvT-loop
-Inv-loop text₀ count₀ text count = (count ≤ length text) × (length text ≡ length text₀)
+Inv-loop text₀ what count₀ text count = (count ≤ length text) × (length text ≡ length text₀)
 
 -- the room that is left
 abbrev μ-loop : tie.MeasureT-loop
-μ-loop text₀ count₀ text count = length text - count
+μ-loop text₀ what count₀ text count = length text - count
 
 loop-holds : tie.Need-loop-holds Inv-loop μ-loop
 loop-holds c = search needs
@@ -28,6 +28,9 @@ part-read-end c = search needs
 
 read-requires : tie.Need-read-requires Inv-loop μ-loop
 read-requires c κs = search needs
+
+fail-requires : tie.Need-fail-requires Inv-loop μ-loop
+fail-requires c κs = search needs
 
 same-length : tie.Need-same-length Inv-loop μ-loop
 same-length c = search needs
@@ -79,6 +82,7 @@ read-input-spec =
     part-read-start
     part-read-end
     read-requires
+    fail-requires
     same-length
     returns
     sub-count

@@ -1,8 +1,10 @@
--- The bytes read lie within the list. Assumes nothing.
+-- The bytes read lie within the list, and the report lies within the buffer. Assumes nothing.
 use borrow.Author.Needs.{needs}
 use mathlib.Core.Path.{sym}
 use lib.Seq.{length-take-le}
 use Rattle.console.specs.Laws.Inputs.{within-read}
+use Rattle.print.specs.Laws.Written.{start-within}
+use Rattle.report.specs.Program.{printedOf}
 use Rattle.settle.proofs.main.Statement.{statement}
 use Rattle.settle.proofs.main.Tie as tie
 
@@ -11,6 +13,9 @@ job-text-requires c κs = search needs
 
 slice-aggregate-read-input : tie.Need-slice-aggregate-read-input
 slice-aggregate-read-input c = search needs
+
+slice-aggregate-read-input-2 : tie.Need-slice-aggregate-read-input-2
+slice-aggregate-read-input-2 c = search needs
 
 read-input-requires : tie.Need-read-input-requires
 read-input-requires c κs = search needs
@@ -21,23 +26,34 @@ enum-known-count c = search needs
 enum-told : tie.Need-enum-told
 enum-told c = search needs
 
-slice-aggregate-fail : tie.Need-slice-aggregate-fail
-slice-aggregate-fail c = search needs
-
-fail-requires : tie.Need-fail-requires
-fail-requires c κs = search needs
-
 returns : tie.Need-returns
 returns c = search needs
 
+large-buffer-requires : tie.Need-large-buffer-requires
+large-buffer-requires c κs = search needs
+
 array-share-prefix-text : tie.Need-array-share-prefix-text
-array-share-prefix-text c = within-read (c .before .count .given .1) (c .before .before .before .before .read-input .ensures)
+array-share-prefix-text c =
+    let told = c .before .before in
+    within-read (told .count .given .1) (told .before .before .before .read-input .ensures)
 
-slice-aggregate-write-printed : tie.Need-slice-aggregate-write-printed
-slice-aggregate-write-printed c = sym (length-take-le _ _ (array-share-prefix-text (c .before)))
+slice-aggregate-print-job : tie.Need-slice-aggregate-print-job
+slice-aggregate-print-job c = sym (length-take-le _ _ (array-share-prefix-text (c .before)))
 
-write-printed-requires : tie.Need-write-printed-requires
-write-printed-requires c κs = search needs
+print-job-requires : tie.Need-print-job-requires
+print-job-requires c κs = search needs
+
+array-share-prefix-buffer : tie.Need-array-share-prefix-buffer
+array-share-prefix-buffer c = start-within (printedOf _) _ (c .print-job .ensures .0) (c .print-job .ensures .1)
+
+slice-aggregate-write-output : tie.Need-slice-aggregate-write-output
+slice-aggregate-write-output c = sym (length-take-le _ _ (array-share-prefix-buffer (c .before)))
+
+slice-aggregate-write-output-2 : tie.Need-slice-aggregate-write-output-2
+slice-aggregate-write-output-2 c = search needs
+
+write-output-requires : tie.Need-write-output-requires
+write-output-requires c κs = search needs
 
 returns-2 : tie.Need-returns-2
 returns-2 c = search needs
@@ -48,13 +64,17 @@ main-spec =
     (tie.spec
     job-text-requires
     slice-aggregate-read-input
+    slice-aggregate-read-input-2
     read-input-requires
     enum-known-count
     enum-told
-    slice-aggregate-fail
-    fail-requires
     returns
+    large-buffer-requires
     array-share-prefix-text
-    slice-aggregate-write-printed
-    write-printed-requires
+    slice-aggregate-print-job
+    print-job-requires
+    array-share-prefix-buffer
+    slice-aggregate-write-output
+    slice-aggregate-write-output-2
+    write-output-requires
     returns-2)
