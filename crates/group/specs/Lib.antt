@@ -1,10 +1,4 @@
-pub mod Tables
-pub mod Checks
-pub mod First
-pub mod Findings
-pub mod Additions
-pub mod Levelling
+pub mod Narrowing
 pub mod Answers
 pub mod Promises
-pub mod Inner
 pub mod Laws

@@ -5,15 +5,15 @@ use mathlib.Core.Path.{_≡_}
 use lib.ListN.{length}
 use Rattle.model.specs.declared.Figures.{Figures}
 use Rattle.model.specs.declared.Refusal.{Refusal}
-use Rattle.group.specs.Answers.{LevelFinding}
-use Rattle.narrowing.specs.Answers.{NarrowFinding}
+use Rattle.lists.specs.Answers.{LevelFinding}
+use Rattle.group.specs.Answers.{NarrowFinding}
 use Rattle.model.specs.Refusals.{refusal}
-use Rattle.group.specs.Promises.{LevelPromise}
-use Rattle.narrowing.specs.Promises.{NarrowPromise}
-use Rattle.group.specs.declared.Levelling.{Levelling}
-use Rattle.group.specs.declared.Levelling.the-variants as level
-use Rattle.narrowing.specs.declared.Narrowing.{Narrowing}
-use Rattle.narrowing.specs.declared.Narrowing.the-variants as narrow
+use Rattle.lists.specs.Promises.{LevelPromise}
+use Rattle.group.specs.Promises.{NarrowPromise}
+use Rattle.lists.specs.declared.Levelling.{Levelling}
+use Rattle.lists.specs.declared.Levelling.the-variants as level
+use Rattle.group.specs.declared.Narrowing.{Narrowing}
+use Rattle.group.specs.declared.Narrowing.the-variants as narrow
 use Rattle.planner.specs.Foreign.{foreignLevelled, foreignNarrowed, foreignLimits}
 use Rattle.planner.specs.declared.ForeignLevelled.{ForeignLevelled}
 use Rattle.planner.specs.declared.ForeignLimits.{ForeignLimits}

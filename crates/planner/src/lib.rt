@@ -1,15 +1,15 @@
 // The planner's calls for C and Rust, on numbers and slices; include/danivomel.h documents them.
-use group::Levelling;
+use group::Narrowing;
+use lists::Levelling;
 use model::Limit;
 use model::Limits;
 use model::Refusal;
-use narrowing::Narrowing;
 ghost use mathlib.Core.Path.{_≡_};
 ghost use lib.ListN.{length};
 ghost use Rattle.model.specs.Levels.{levelled};
 ghost use Rattle.model.specs.Running.{markedLows, markedHighs};
-ghost use Rattle.group.specs.Levelling.{levelling, planAfter};
-ghost use Rattle.narrowing.specs.Narrowing.{narrowing, listAfter};
+ghost use Rattle.lists.specs.Levelling.{levelling, planAfter};
+ghost use Rattle.group.specs.Narrowing.{narrowing, listAfter};
 ghost use Rattle.planner.specs.Foreign.{foreignRefusal, foreignLevelled, foreignNarrowed, foreignLimit, foreignLimits};
 
 pub mod texts;
@@ -162,7 +162,7 @@ fn narrowing_out(answer: Narrowing) -> ForeignRefusal
     }
 }
 
-// Narrows a group on lists, as narrowing::narrow does.
+// Narrows a group on lists, as group::narrow does.
 #[no_mangle]
 pub extern "C" fn danivomel_narrow(
     lows: &mut [u64],
@@ -181,6 +181,6 @@ pub extern "C" fn danivomel_narrow(
         deviation: limit_in(deviation),
         spread: limit_in(spread),
     };
-    let answer = narrowing::narrow(lows, highs, marks, total, both);
+    let answer = group::narrow(lows, highs, marks, total, both);
     narrowing_out(answer)
 }

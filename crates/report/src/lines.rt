@@ -1,5 +1,5 @@
 // The lines of a report, written into a buffer.
-use group::Levelling;
+use lists::Levelling;
 use model::Figures;
 use print::put_form;
 use print::put_line;

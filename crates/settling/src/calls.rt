@@ -1,10 +1,10 @@
 // Settling a job text over a table.
 use crate::passes::settle_core;
-use group::Check;
 use groups::MARKS;
 use groups::flat_room;
 use job::Reading;
 use job::scan_groups;
+use lists::Check;
 use works::Settling;
 use works::checks::check_table;
 ghost use mathlib.Core.Path.{_≡_};

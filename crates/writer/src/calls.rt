@@ -2,11 +2,11 @@
 use crate::Writing;
 use crate::lines::put_member_lines;
 use crate::lines::put_range_lines;
-use group::Check;
 use groups::MARKS;
 use groups::flat_room;
 use job::Reading;
 use job::scan_groups;
+use lists::Check;
 use model::Refusal;
 use print::put_word;
 use works::checks::check_table;

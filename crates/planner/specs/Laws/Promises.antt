@@ -4,20 +4,20 @@ use mathlib.Core.List.{List}
 use mathlib.Core.Path.{_≡_, refl, sym, ap, _∙_}
 use native.Mathlib.Omega.{arith}
 use lib.ListN.{length}
-use Rattle.group.specs.Answers.{LevelFinding}
-use Rattle.narrowing.specs.Answers.{NarrowFinding}
-use Rattle.group.specs.Laws.Answers.{level-exactly, level-number, level-between}
-use Rattle.narrowing.specs.Laws.Answers.{narrow-exactly, narrow-number, narrow-between}
-use Rattle.group.specs.Levelling.{levelling}
-use Rattle.narrowing.specs.Narrowing.{narrowing}
-use Rattle.group.specs.Promises.{planLeft}
-use Rattle.narrowing.specs.Promises.{lowsLeft, highsLeft}
-use Rattle.group.specs.Laws.Promises.{level-promised, level-unchanged}
-use Rattle.narrowing.specs.Laws.Promises.{narrow-promised, narrow-unchanged}
-use Rattle.group.specs.declared.Levelling.{Levelling}
-use Rattle.group.specs.declared.Levelling.the-variants as level
-use Rattle.narrowing.specs.declared.Narrowing.{Narrowing}
-use Rattle.narrowing.specs.declared.Narrowing.the-variants as narrow
+use Rattle.lists.specs.Answers.{LevelFinding}
+use Rattle.group.specs.Answers.{NarrowFinding}
+use Rattle.lists.specs.Laws.Answers.{level-exactly, level-number, level-between}
+use Rattle.group.specs.Laws.Answers.{narrow-exactly, narrow-number, narrow-between}
+use Rattle.lists.specs.Levelling.{levelling}
+use Rattle.group.specs.Narrowing.{narrowing}
+use Rattle.lists.specs.Promises.{planLeft}
+use Rattle.group.specs.Promises.{lowsLeft, highsLeft}
+use Rattle.lists.specs.Laws.Promises.{level-promised, level-unchanged}
+use Rattle.group.specs.Laws.Promises.{narrow-promised, narrow-unchanged}
+use Rattle.lists.specs.declared.Levelling.{Levelling}
+use Rattle.lists.specs.declared.Levelling.the-variants as level
+use Rattle.group.specs.declared.Narrowing.{Narrowing}
+use Rattle.group.specs.declared.Narrowing.the-variants as narrow
 use Rattle.planner.specs.Foreign.{foreignLevelled, foreignNarrowed, foreignLimits}
 use Rattle.planner.specs.declared.ForeignLimits.{ForeignLimits}
 use Rattle.planner.specs.Promises.{ForeignLevelPromise, ForeignNarrowPromise}

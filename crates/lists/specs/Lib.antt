@@ -1,0 +1,10 @@
+pub mod Tables
+pub mod Checks
+pub mod First
+pub mod Findings
+pub mod Additions
+pub mod Levelling
+pub mod Answers
+pub mod Promises
+pub mod Inner
+pub mod Laws

@@ -1,4 +1,0 @@
-pub mod Narrowing
-pub mod Answers
-pub mod Promises
-pub mod Laws
