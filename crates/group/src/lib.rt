@@ -1,9 +1,9 @@
 // Levelling and narrowing one group on lists, checks first.
-use lists::Check;
-use lists::Levelling;
-use lists::checks::amounts_within;
-use lists::checks::check_lists;
-use lists::level_core;
+use levelling::Check;
+use levelling::Levelling;
+use levelling::checks::amounts_within;
+use levelling::checks::check_lists;
+use levelling::level_core;
 use model::GREATEST_TOTAL;
 use model::Limits;
 use model::Question;
@@ -14,7 +14,7 @@ ghost use mathlib.Core.Path.{_≡_};
 ghost use lib.ListN.{length};
 ghost use Rattle.model.specs.Levels.{levelled};
 ghost use Rattle.model.specs.Running.{markedLows, markedHighs};
-ghost use Rattle.lists.specs.Levelling.{levelling, planAfter};
+ghost use Rattle.levelling.specs.Levelling.{levelling, planAfter};
 ghost use Rattle.group.specs.Narrowing.{narrowing, listAfter};
 
 // Levels a group on lists.

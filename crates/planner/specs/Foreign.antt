@@ -4,8 +4,8 @@ use Rattle.model.specs.declared.Limit.{Limit}
 use Rattle.model.specs.declared.Limit.the-variants.{Any, AtMost}
 use Rattle.model.specs.declared.Limits.{Limits}
 use Rattle.model.specs.declared.Refusal.{Refusal}
-use Rattle.lists.specs.declared.Levelling.{Levelling}
-use Rattle.lists.specs.declared.Levelling.the-variants.{Levelled, Refused}
+use Rattle.levelling.specs.declared.Levelling.{Levelling}
+use Rattle.levelling.specs.declared.Levelling.the-variants.{Levelled, Refused}
 use Rattle.group.specs.declared.Narrowing.{Narrowing}
 use Rattle.job.specs.declared.Reading.{Reading}
 use Rattle.report.specs.declared.Reporting.{Reporting}

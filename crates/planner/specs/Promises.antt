@@ -5,13 +5,13 @@ use mathlib.Core.Path.{_≡_}
 use lib.ListN.{length}
 use Rattle.model.specs.declared.Figures.{Figures}
 use Rattle.model.specs.declared.Refusal.{Refusal}
-use Rattle.lists.specs.Answers.{LevelFinding}
+use Rattle.levelling.specs.Answers.{LevelFinding}
 use Rattle.group.specs.Answers.{NarrowFinding}
 use Rattle.model.specs.Refusals.{refusal}
-use Rattle.lists.specs.Promises.{LevelPromise}
+use Rattle.levelling.specs.Promises.{LevelPromise}
 use Rattle.group.specs.Promises.{NarrowPromise}
-use Rattle.lists.specs.declared.Levelling.{Levelling}
-use Rattle.lists.specs.declared.Levelling.the-variants as level
+use Rattle.levelling.specs.declared.Levelling.{Levelling}
+use Rattle.levelling.specs.declared.Levelling.the-variants as level
 use Rattle.group.specs.declared.Narrowing.{Narrowing}
 use Rattle.group.specs.declared.Narrowing.the-variants as narrow
 use Rattle.planner.specs.Foreign.{foreignLevelled, foreignNarrowed, foreignLimits}

@@ -1,6 +1,6 @@
 // The planner's calls for C and Rust, on numbers and slices; include/danivomel.h documents them.
 use group::Narrowing;
-use lists::Levelling;
+use levelling::Levelling;
 use model::Limit;
 use model::Limits;
 use model::Refusal;
@@ -8,7 +8,7 @@ ghost use mathlib.Core.Path.{_≡_};
 ghost use lib.ListN.{length};
 ghost use Rattle.model.specs.Levels.{levelled};
 ghost use Rattle.model.specs.Running.{markedLows, markedHighs};
-ghost use Rattle.lists.specs.Levelling.{levelling, planAfter};
+ghost use Rattle.levelling.specs.Levelling.{levelling, planAfter};
 ghost use Rattle.group.specs.Narrowing.{narrowing, listAfter};
 ghost use Rattle.planner.specs.Foreign.{foreignRefusal, foreignLevelled, foreignNarrowed, foreignLimit, foreignLimits};
 

@@ -7,7 +7,7 @@ use Rattle.job.specs.Job.{Job, JobOrRefusal, accepted, refused, noLines, mostBy
 use Rattle.model.specs.Groups.{Group}
 use Rattle.model.specs.Shares.{pick}
 use Rattle.works.specs.Calls.{Settlement, settleText}
-use Rattle.lists.specs.Tables.{tableOf}
+use Rattle.levelling.specs.Tables.{tableOf}
 use Rattle.works.specs.declared.Settling.{Settling}
 use Rattle.works.specs.declared.Settling.the-variants as settling
 use Rattle.report.specs.Reports.{reportOf}

@@ -5,7 +5,7 @@ use Rattle.model.specs.Running.{markedAbove, markedFigures}
 use Rattle.model.specs.Groups.{Group}
 use Rattle.model.specs.Levels.{level}
 use Rattle.works.specs.Resting.{marksOf, PlanFrom}
-use Rattle.lists.specs.Tables.{Table, lowsOf, highsOf}
+use Rattle.levelling.specs.Tables.{Table, lowsOf, highsOf}
 use Rattle.report.specs.Lines.{groupLine}
 
 -- 01: the share printed is a plan of the group drawn from the table, and every other such plan has at least as much in total above every t;

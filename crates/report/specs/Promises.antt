@@ -8,7 +8,7 @@ use Rattle.model.specs.Groups.{Group}
 use Rattle.works.specs.Consistency.{Apart}
 use Rattle.works.specs.Resting.{AtRest}
 use Rattle.works.specs.Called.{Cleared, firstOf, groups, count, opening}
-use Rattle.lists.specs.Tables.{Table, lowOf, highOf, Inside}
+use Rattle.levelling.specs.Tables.{Table, lowOf, highOf, Inside}
 use Rattle.report.specs.Calls.{Reported, reportText}
 use Rattle.report.specs.Evenness.{EvenLines}
 use Rattle.report.specs.Reports.{groupLines}

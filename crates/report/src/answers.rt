@@ -16,7 +16,7 @@ ghost use Rattle.report.specs.Reportable.{Reportable};
 ghost use Rattle.report.specs.Inner.Asked.{Answerable, HoldsJob};
 ghost use Rattle.report.specs.Inner.Printed.{sizePrinted, bufferPrinted};
 ghost use Rattle.report.specs.Reports.{reportOf};
-ghost use Rattle.lists.specs.Tables.{tableOf};
+ghost use Rattle.levelling.specs.Tables.{tableOf};
 
 // How many units and groups a job has.
 pub struct Counts {

@@ -3,15 +3,15 @@ use crate::lines::put_levelled_line;
 use groups::MARKS;
 use groups::Stored;
 use groups::group_at;
-use lists::Levelling;
-use lists::level_core;
-use lists::members::gather;
+use levelling::Levelling;
+use levelling::level_core;
+use levelling::members::gather;
 use model::lists::room;
 ghost use Prim.Native.Nat.{_≤_};
 ghost use mathlib.Core.List.{flatten};
 ghost use mathlib.Core.Path.{_≡_};
 ghost use lib.ListN.{length, take};
-ghost use Rattle.lists.specs.Levelling.{levelledTo, planAfter};
+ghost use Rattle.levelling.specs.Levelling.{levelledTo, planAfter};
 ghost use Rattle.groups.specs.Inner.Flat.{groupIn, groupsIn, marksIn};
 ghost use Rattle.model.specs.Levels.{levelled};
 ghost use Rattle.print.specs.Inner.Written.{Room, Wrote};
@@ -19,7 +19,7 @@ ghost use Rattle.report.specs.Reportable.{Levelable};
 ghost use Rattle.report.specs.Inner.Asked.{LevelledIn, LevelMembers, Printable};
 ghost use Rattle.report.specs.Reports.{groupLines};
 ghost use Rattle.works.specs.Inner.Asked.{HoldsMembers};
-ghost use Rattle.lists.specs.Tables.{Named, gather, tableOf};
+ghost use Rattle.levelling.specs.Tables.{Named, gather, tableOf};
 ghost use Rattle.model.specs.Shares.{mostUnits};
 
 // Writes the members' entries over the front of a list.

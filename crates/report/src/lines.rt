@@ -1,5 +1,5 @@
 // The lines of a report, written into a buffer.
-use lists::Levelling;
+use levelling::Levelling;
 use model::Figures;
 use print::put_form;
 use print::put_line;

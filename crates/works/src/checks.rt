@@ -1,6 +1,6 @@
 // The checks on a table ahead of settling.
-use lists::Check;
-use lists::checks::check_lists;
+use levelling::Check;
+use levelling::checks::check_lists;
 use model::Refusal;
 ghost use mathlib.Core.Path.{_≡_};
 ghost use Prim.Native.Nat.{_≤_};

@@ -3,8 +3,8 @@ use Prim.Native.Nat.{ℕ, _*_}
 use mathlib.Core.List.{List, _++_}
 use lib.Dec.{leb}
 use lib.ListN.{length, drop}
-use Rattle.lists.specs.declared.Check.{Check}
-use Rattle.lists.specs.declared.Check.the-variants.{Passed, Failed}
+use Rattle.levelling.specs.declared.Check.{Check}
+use Rattle.levelling.specs.declared.Check.the-variants.{Passed, Failed}
 use Rattle.job.specs.Job.{Job, readJob, accepted, refused}
 use Rattle.model.specs.Groups.{Group}
 use Rattle.model.specs.Refusals.{refusal}

@@ -6,7 +6,7 @@ use Rattle.job.specs.Job.{Job}
 use Rattle.model.specs.Groups.{Group}
 use Rattle.model.specs.Running.{runs}
 use Rattle.model.specs.Shares.{pick}
-use Rattle.lists.specs.Tables.{Table}
+use Rattle.levelling.specs.Tables.{Table}
 
 -- a unit's line: its range, or `(shut)` where its mark is not 0
 abbrev pub rangeLine : ℕ → ℕ → ℕ → List ℕ

@@ -6,7 +6,7 @@ use groups::MARKS;
 use groups::flat_room;
 use job::Reading;
 use job::scan_groups;
-use lists::Check;
+use levelling::Check;
 use model::Refusal;
 use print::put_word;
 use works::checks::check_table;

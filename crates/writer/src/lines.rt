@@ -19,7 +19,7 @@ ghost use Rattle.job.specs.Sound.{AcceptedGroups};
 ghost use Rattle.model.specs.Shares.{mostUnits};
 ghost use Rattle.print.specs.Inner.Written.{Room, Wrote};
 ghost use Rattle.print.specs.Items.{items};
-ghost use Rattle.lists.specs.Tables.{Named};
+ghost use Rattle.levelling.specs.Tables.{Named};
 ghost use Rattle.writer.specs.Inner.Pieces.{groupHead};
 ghost use Rattle.writer.specs.Texts.{rangeLine, rangeLines, memberLine};
 

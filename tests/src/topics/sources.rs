@@ -10,7 +10,7 @@ pub fn run(checks: &mut Checks) {
 
 /// The code of a file of crate group, without comments and contracts, which say nothing of what is run.
 fn code(name: &str) -> String {
-    let text = std::fs::read_to_string(format!("crates/lists/src/{name}.rt")).expect("the code is read");
+    let text = std::fs::read_to_string(format!("crates/levelling/src/{name}.rt")).expect("the code is read");
     let is_code = |line: &&str| !["//", "ghost ", "requires ", "ensures "].iter().any(|start| line.starts_with(start));
     text.lines().map(str::trim_start).filter(is_code).map(|line| format!("{line}\n")).collect()
 }

@@ -4,10 +4,10 @@ use mathlib.Core.Path.{_≡_, refl}
 use lib.Dec.{leb}
 use lib.ListN.{length}
 use Rattle.model.specs.Shares.{greatestTotal}
-use Rattle.lists.specs.Checks.{checkLists}
-use Rattle.lists.specs.Laws.Findings.{check-exactly, passed-sound, passed-marked}
-use Rattle.lists.specs.Levelling.{levelling}
-use Rattle.lists.specs.declared.Check.the-variants.{Passed}
+use Rattle.levelling.specs.Checks.{checkLists}
+use Rattle.levelling.specs.Laws.Findings.{check-exactly, passed-sound, passed-marked}
+use Rattle.levelling.specs.Levelling.{levelling}
+use Rattle.levelling.specs.declared.Check.the-variants.{Passed}
 use Rattle.group.proofs.level.Statement.{statement}
 use Rattle.group.proofs.level.Tie as tie
 

@@ -4,18 +4,18 @@ use mathlib.Core.List.{List}
 use mathlib.Core.Path.{_≡_, refl, sym, ap, _∙_}
 use native.Mathlib.Omega.{arith}
 use lib.ListN.{length}
-use Rattle.lists.specs.Answers.{LevelFinding}
+use Rattle.levelling.specs.Answers.{LevelFinding}
 use Rattle.group.specs.Answers.{NarrowFinding}
-use Rattle.lists.specs.Laws.Answers.{level-exactly, level-number, level-between}
+use Rattle.levelling.specs.Laws.Answers.{level-exactly, level-number, level-between}
 use Rattle.group.specs.Laws.Answers.{narrow-exactly, narrow-number, narrow-between}
-use Rattle.lists.specs.Levelling.{levelling}
+use Rattle.levelling.specs.Levelling.{levelling}
 use Rattle.group.specs.Narrowing.{narrowing}
-use Rattle.lists.specs.Promises.{planLeft}
+use Rattle.levelling.specs.Promises.{planLeft}
 use Rattle.group.specs.Promises.{lowsLeft, highsLeft}
-use Rattle.lists.specs.Laws.Promises.{level-promised, level-unchanged}
+use Rattle.levelling.specs.Laws.Promises.{level-promised, level-unchanged}
 use Rattle.group.specs.Laws.Promises.{narrow-promised, narrow-unchanged}
-use Rattle.lists.specs.declared.Levelling.{Levelling}
-use Rattle.lists.specs.declared.Levelling.the-variants as level
+use Rattle.levelling.specs.declared.Levelling.{Levelling}
+use Rattle.levelling.specs.declared.Levelling.the-variants as level
 use Rattle.group.specs.declared.Narrowing.{Narrowing}
 use Rattle.group.specs.declared.Narrowing.the-variants as narrow
 use Rattle.planner.specs.Foreign.{foreignLevelled, foreignNarrowed, foreignLimits}

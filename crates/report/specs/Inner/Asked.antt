@@ -3,8 +3,8 @@ use Prim.Native.Nat.{ℕ, _+_, _≤_}
 use mathlib.Core.List.{List, [], List·Memᴰ}
 use mathlib.Core.Path.{_≡_}
 use lib.ListN.{length, take}
-use Rattle.lists.specs.declared.Levelling.{Levelling}
-use Rattle.lists.specs.declared.Levelling.the-variants.{Levelled, Refused}
+use Rattle.levelling.specs.declared.Levelling.{Levelling}
+use Rattle.levelling.specs.declared.Levelling.the-variants.{Levelled, Refused}
 use Rattle.groups.specs.Memberships.{memberships, size, SoundGroup}
 use Rattle.groups.specs.Inner.Flat.{marksFrom, marksIn, groupsIn, Holds}
 use Rattle.job.specs.Job.{mostGroups, mostMemberships}
@@ -12,7 +12,7 @@ use Rattle.model.specs.Groups.{Group}
 use Rattle.model.specs.Levels.{level, levelled}
 use Rattle.model.specs.Running.{Marked, markedFigures}
 use Rattle.works.specs.Resting.{marksOf}
-use Rattle.lists.specs.Tables.{Table, Named, tableOf, units, gather, lowsOf, highsOf}
+use Rattle.levelling.specs.Tables.{Table, Named, tableOf, units, gather, lowsOf, highsOf}
 use Rattle.model.specs.Sound.{SoundRanges}
 use Rattle.works.specs.declared.Settling.{Settling}
 use Rattle.works.specs.declared.Settling.the-variants.{Settled}

@@ -5,7 +5,7 @@ use mathlib.Core.Path.{_≡_}
 use lib.ListN.{length, drop}
 use Rattle.job.specs.Job.{mostBytes}
 use Rattle.works.specs.Called.{Cleared, opening}
-use Rattle.lists.specs.Tables.{tableOf}
+use Rattle.levelling.specs.Tables.{tableOf}
 use Rattle.report.specs.Lines.{refusalLine}
 use Rattle.report.specs.declared.Reporting.{Reporting}
 use Rattle.model.specs.Shares.{mostUnits}

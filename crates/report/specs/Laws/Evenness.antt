@@ -14,7 +14,7 @@ use Rattle.works.specs.Laws.Resting.{members-marked, settled-opening, settled-r
 use Rattle.works.specs.Laws.Turns.{gathered}
 use Rattle.works.specs.Resting.{ShutOpening, marksOf, runningGroups, AtRest}
 use Rattle.works.specs.Settling.{Outcome, settle}
-use Rattle.lists.specs.Tables.{Table, units, lowOf, highOf, lowsOf, highsOf}
+use Rattle.levelling.specs.Tables.{Table, units, lowOf, highOf, lowsOf, highsOf}
 use Rattle.report.specs.Reports.{levelledLine, groupLines}
 use Rattle.report.specs.Evenness.{Evenest, EvenLines}
 

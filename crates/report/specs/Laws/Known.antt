@@ -11,7 +11,7 @@ use Rattle.model.specs.Known.{sameList}
 use Rattle.model.specs.Plans.{hasPlan, turnOf, firstUp, firstDown, narrowedLow, narrowedHigh, tabulate, narrowedLows, narrowedHighs}
 use Rattle.model.specs.Running.{running}
 use Rattle.works.specs.Resting.{runningGroups}
-use Rattle.lists.specs.Tables.{widths, gather, scatter}
+use Rattle.levelling.specs.Tables.{widths, gather, scatter}
 use Rattle.works.specs.Settling.{narrowed, revise, passFrom, settleFrom, settle}
 use Rattle.works.specs.Known.{example, exampleTable}
 use Rattle.job.specs.Form.{printLimit, printMembers, printLine}

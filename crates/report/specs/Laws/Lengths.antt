@@ -21,9 +21,9 @@ use Rattle.model.specs.Sound.{SoundRanges, HasShares}
 use Rattle.model.specs.Laws.Sound.{running-sound, levelled-length, highs-small}
 use Rattle.groups.specs.Memberships.{memberships}
 use Rattle.job.specs.Job.{mostBytes}
-use Rattle.lists.specs.Laws.Members.{gather-length}
+use Rattle.levelling.specs.Laws.Members.{gather-length}
 use Rattle.works.specs.Resting.{marksOf}
-use Rattle.lists.specs.Tables.{Table, lowsOf, highsOf}
+use Rattle.levelling.specs.Tables.{Table, lowsOf, highsOf}
 use Rattle.print.specs.Items.{form}
 use Rattle.print.specs.Laws.Lengths.{item-length, items-more, items-none, items-length, form-length, line-length}
 use Rattle.report.specs.Lines.{settledLine, unitLine, groupLine, refusalLine}

@@ -20,7 +20,7 @@ use Rattle.works.specs.Reordering.{reordered-cleared}
 use Rattle.works.specs.Laws.Orders.{same-units, same-shut, same-groups}
 use Rattle.works.specs.Calls.{WantOfPlan}
 use Rattle.works.specs.Laws.Repeated.{called-same-groups}
-use Rattle.lists.specs.Tables.{Table, width}
+use Rattle.levelling.specs.Tables.{Table, width}
 use Rattle.works.specs.declared.Settling.the-variants as works
 use Rattle.report.specs.Calls.{Reported, reported}
 use Rattle.report.specs.Laws.Cut.{report-cut}

@@ -5,7 +5,7 @@ use mathlib.Core.Path.{_≡_, refl, sym, ap, _∙_}
 use native.Mathlib.Omega.{arith}
 use lib.ListN.{length, take, drop, length-append}
 use lib.Seq.{take-at}
-use Rattle.lists.specs.declared.Check.the-variants.{Passed}
+use Rattle.levelling.specs.declared.Check.the-variants.{Passed}
 use Rattle.job.specs.Job.{JobOrRefusal, accepted, refused, mostBytes, readJob}
 use Rattle.job.specs.Reading.{readTable, ReadInto}
 use Rattle.job.specs.Laws.Reading.{accepted-by, refused-by, table-fits, table-refused, table-accepted}
@@ -21,7 +21,7 @@ use Rattle.works.specs.Laws.Called.{CallEnds, says, ends}
 use Rattle.works.specs.Laws.Checked.{Roomy, ranges-pass}
 use Rattle.works.specs.Resting.{runningGroups}
 use Rattle.works.specs.Settling.{settle}
-use Rattle.lists.specs.Tables.{Table, tableOf}
+use Rattle.levelling.specs.Tables.{Table, tableOf}
 use Rattle.works.specs.declared.Settling.{Settling}
 use Rattle.report.specs.Calls.{Reported, reported, reportBy, reportText}
 use Rattle.report.specs.Lines.{refusalLine}

@@ -8,10 +8,10 @@ use borrow.Author.Tests.{le-leb}
 use lib.ListN.{length, take, drop, length-drop}
 use lib.Seq.{take-at, length-take-le}
 use Rattle.model.specs.Laws.Sound.{levelled-length}
-use Rattle.lists.specs.Levelling.{levelledTo, planAfter}
+use Rattle.levelling.specs.Levelling.{levelledTo, planAfter}
 use Rattle.model.specs.Shares.{mostUnits}
-use Rattle.lists.specs.declared.Levelling.{Levelling}
-use Rattle.lists.specs.declared.Levelling.the-variants.{Levelled}
+use Rattle.levelling.specs.declared.Levelling.{Levelling}
+use Rattle.levelling.specs.declared.Levelling.the-variants.{Levelled}
 use Rattle.groups.specs.Inner.Flat.{marksFrom, marksIn, storedAt, groupIn, groupsIn}
 use Rattle.groups.specs.Laws.Walk.{Walk, Next, walk-start, walk-end, walk-next}
 use Rattle.groups.specs.declared.Stored.{Stored}
@@ -21,9 +21,9 @@ use Rattle.model.specs.Running.{markedFigures}
 use Rattle.works.specs.Resting.{marksOf}
 use Rattle.print.specs.Laws.Written.{Rest, begin, next, done}
 use Rattle.print.specs.Inner.Written.{Wrote, Room}
-use Rattle.lists.specs.Laws.Members.{gather-length}
+use Rattle.levelling.specs.Laws.Members.{gather-length}
 use Rattle.groups.specs.Memberships.{size}
-use Rattle.lists.specs.Tables.{Table, lowsOf, highsOf}
+use Rattle.levelling.specs.Tables.{Table, lowsOf, highsOf}
 use Rattle.report.specs.Reportable.{Levelable, AllLevelable}
 use Rattle.report.specs.Inner.Asked.{marksFor, Printable, LevelledIn, lineOfLevelling}
 use Rattle.report.specs.Reports.{levelledLine, lineOf, groupLines}

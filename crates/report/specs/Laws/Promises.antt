@@ -17,7 +17,7 @@ use Rattle.works.specs.Resting.{NoneAtRest}
 use Rattle.works.specs.Called.{Cleared, groups, marks, count, opening, called, after}
 use Rattle.works.specs.Laws.Called.{opening-shut, called-settled, called-inside, called-consistent, called-greatest, called-untouched, called-refused}
 use Rattle.works.specs.Laws.Repeated.{called-again}
-use Rattle.lists.specs.Tables.{tableOf}
+use Rattle.levelling.specs.Tables.{tableOf}
 use Rattle.works.specs.declared.Settling.{Settling}
 use Rattle.works.specs.declared.Settling.the-variants as works
 use Rattle.report.specs.Calls.{Reported, reported, reportBy, reportSettled, reportText, jobOf}

@@ -19,7 +19,7 @@ use Rattle.groups.specs.Inner.Flat.{groupsIn, marksIn}
 use Rattle.groups.specs.Laws.Reading.{flatten-groups}
 use Rattle.groups.specs.Memberships.{SoundGroup}
 use Rattle.works.specs.Laws.Accepted.{each-sound, read-settles, refused-settles}
-use Rattle.lists.specs.Tables.{tableOf}
+use Rattle.levelling.specs.Tables.{tableOf}
 use Rattle.works.specs.declared.Settling.{Settling}
 use Rattle.works.specs.declared.Settling.the-variants as works
 use Rattle.report.specs.Calls.{reported, reportBy, reportSettled, reportText}

@@ -10,8 +10,8 @@ use borrow.Author.Tests.{le-leb, lt-leb}
 use lib.Dec.{leb}
 use lib.ListN.{length, take, drop, take-append-drop, length-take, length-map}
 use lib.Seq.{take-take}
-use Rattle.lists.specs.declared.Check.{Check}
-use Rattle.lists.specs.declared.Check.the-variants.{Passed, Failed}
+use Rattle.levelling.specs.declared.Check.{Check}
+use Rattle.levelling.specs.declared.Check.the-variants.{Passed, Failed}
 use Rattle.job.specs.Job.{Job, JobOrRefusal, accepted, refused, mostBytes, readJob}
 use Rattle.job.specs.Reading.{readTable, fitTable, lowsAfter, highsAfter, ReadInto, readingOf}
 use Rattle.job.specs.Laws.Sound.{accepted-sound}
@@ -23,7 +23,7 @@ use Rattle.works.specs.Answers.{answerOf, tableAfter}
 use Rattle.works.specs.Calls.{Settlement, settlement, checkTable, settledAfter, leaving, settleJob, settleText}
 use Rattle.works.specs.Resting.{runningGroups}
 use Rattle.works.specs.Settling as works
-use Rattle.lists.specs.Tables.{Table, tableOf}
+use Rattle.levelling.specs.Tables.{Table, tableOf}
 use Rattle.works.specs.declared.Settling.{Settling}
 use Rattle.works.specs.declared.Settling.the-variants as settling
 use Rattle.writer.specs.Calls.{writeOver, writeText}

@@ -8,11 +8,11 @@ use borrow.Author.Tests.{leb-true, le-leb, not-false}
 use lib.Dec.{leb}
 use lib.ListN.{length, take, drop}
 use lib.Seq.{length-take-le}
-use Rattle.lists.specs.Checks.{checkLists}
-use Rattle.lists.specs.Findings.{Finding, SizedLists}
-use Rattle.lists.specs.Laws.Findings.{check-exactly, passed-sound, passed-marked as lists-marked, refuse-passed}
+use Rattle.levelling.specs.Checks.{checkLists}
+use Rattle.levelling.specs.Findings.{Finding, SizedLists}
+use Rattle.levelling.specs.Laws.Findings.{check-exactly, passed-sound, passed-marked as lists-marked, refuse-passed}
 use Rattle.model.specs.Sound as one
-use Rattle.lists.specs.declared.Check.the-variants.{Passed, Failed}
+use Rattle.levelling.specs.declared.Check.the-variants.{Passed, Failed}
 use Rattle.model.specs.Laws.Running.{marked-length}
 use Rattle.model.specs.Laws.Tests.{both, both-left, both-right}
 use Rattle.model.specs.Running.{Marked}
@@ -24,7 +24,7 @@ use Rattle.groups.specs.Inner.Flat.{groupsIn, marksIn}
 use Rattle.works.specs.Inner.Asked.{Opening, Prepared, runningIn}
 use Rattle.works.specs.Resting.{runningGroups}
 use Rattle.works.specs.Settling.{settle}
-use Rattle.lists.specs.Tables.{tableOf}
+use Rattle.levelling.specs.Tables.{tableOf}
 use Rattle.works.specs.declared.Settling.{Settling}
 use Rattle.works.specs.declared.Settling.the-variants.{Refused}
 

@@ -15,7 +15,7 @@ use Rattle.model.specs.Plans.{hasPlan, turnOf, firstUp, firstDown, narrowedLow,
 use Rattle.works.specs.Consistency.{Suits}
 use Rattle.works.specs.Resting.{ShutOpening, AtRest}
 use Rattle.works.specs.Settling.{Outcome, narrowed, revise, passFrom, settleFrom, settle}
-use Rattle.lists.specs.Tables.{widths, gather, scatter}
+use Rattle.levelling.specs.Tables.{widths, gather, scatter}
 use Rattle.works.specs.Laws.Resting.{settled-rest}
 use Rattle.works.specs.Known.{holdsJob, allJobs, pair, pairs, pairTable, example, exampleTable, knownJobs}
 use Rattle.groups.specs.Memberships.{SoundGroup}

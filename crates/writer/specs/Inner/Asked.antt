@@ -9,7 +9,7 @@ use Rattle.job.specs.Sound.{SoundJob}
 use Rattle.report.specs.Inner.Printed.{Opened}
 use Rattle.works.specs.Called.{Cleared}
 use Rattle.works.specs.Calls.{settlement, settleText}
-use Rattle.lists.specs.Tables.{tableOf}
+use Rattle.levelling.specs.Tables.{tableOf}
 use Rattle.works.specs.declared.Settling.{Settling}
 use Rattle.writer.specs.Texts.{jobWith}
 

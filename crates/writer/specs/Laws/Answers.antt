@@ -7,8 +7,8 @@ use native.Mathlib.Decide.{decLe}
 use native.Mathlib.Omega.{arith}
 use borrow.Author.Tests.{le-leb}
 use lib.ListN.{length, drop}
-use Rattle.lists.specs.declared.Check.{Check}
-use Rattle.lists.specs.declared.Check.the-variants.{Passed, Failed}
+use Rattle.levelling.specs.declared.Check.{Check}
+use Rattle.levelling.specs.declared.Check.the-variants.{Passed, Failed}
 use Rattle.job.specs.Job.{Job, JobOrRefusal, accepted, refused, readJob}
 use Rattle.job.specs.Laws.Sound.{accepted-sound}
 use Rattle.job.specs.Sound.{SoundJob}

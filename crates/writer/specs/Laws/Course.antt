@@ -12,7 +12,7 @@ use Rattle.model.specs.Groups.{Group}
 use Rattle.model.specs.Shares.{mostUnits}
 use Rattle.print.specs.Inner.Written.{Room, Wrote}
 use Rattle.print.specs.Laws.Written.{Rest, begin, next, done}
-use Rattle.lists.specs.Tables.{Named}
+use Rattle.levelling.specs.Tables.{Named}
 use Rattle.writer.specs.Texts.{memberLine}
 
 -- groups accepted for fewer units are accepted for more

@@ -17,7 +17,7 @@ use Rattle.works.specs.Laws.Resting.{running-sound, settled-opening}
 use Rattle.works.specs.Laws.Settled.{settled-inside, settled-again}
 use Rattle.works.specs.Resting.{ShutOpening, runningGroups}
 use Rattle.works.specs.Settling.{Outcome, settle}
-use Rattle.lists.specs.Tables.{Table, tableOf}
+use Rattle.levelling.specs.Tables.{Table, tableOf}
 use Rattle.writer.specs.Handing.{handedAfter, handedRead, handedOn, SameHandedOn}
 use Rattle.writer.specs.Laws.Held.{with-sound}
 use Rattle.writer.specs.Laws.Spelled.{text-accepted}

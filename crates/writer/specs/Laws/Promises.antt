@@ -21,7 +21,7 @@ use Rattle.works.specs.Laws.Repeated.{settled-cleared}
 use Rattle.works.specs.Laws.Settled.{settled-again}
 use Rattle.works.specs.Resting.{runningGroups, AtRest}
 use Rattle.works.specs.Settling.{Outcome, settle}
-use Rattle.lists.specs.Tables.{Table, tableOf}
+use Rattle.levelling.specs.Tables.{Table, tableOf}
 use Rattle.works.specs.declared.Settling.the-variants.{Settled}
 use Rattle.writer.specs.Calls.{WrittenText, writtenText, writeText}
 use Rattle.writer.specs.Laws.Answers.{lent-sound, write-fits, lent-sized}

@@ -6,7 +6,7 @@ use native.Mathlib.Omega.{arith}
 use borrow.Author.Tests.{le-leb, lt-leb}
 use lib.ListN.{length, take, drop}
 use lib.Seq.{take-at}
-use Rattle.lists.specs.declared.Check.the-variants.{Passed, Failed}
+use Rattle.levelling.specs.declared.Check.the-variants.{Passed, Failed}
 use Rattle.job.specs.Job.{Job}
 use Rattle.model.specs.Groups.{Group}
 use Rattle.model.specs.Refusals.{refusal}

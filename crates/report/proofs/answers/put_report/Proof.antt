@@ -11,7 +11,7 @@ use Rattle.model.specs.Laws.Lists.{ranges-length}
 use Rattle.print.specs.Inner.Written.{Room}
 use Rattle.print.specs.Laws.Written.{Rest, begin, room-next, next, done, from-start}
 use Rattle.groups.specs.Inner.Flat.{groupsIn, marksIn}
-use Rattle.lists.specs.Tables.{Table, tableOf}
+use Rattle.levelling.specs.Tables.{Table, tableOf}
 use Rattle.report.specs.Laws.Lengths.{report-fits}
 use Rattle.report.specs.Lines.{settledLine}
 use Rattle.report.specs.Reportable.{Reportable}

@@ -12,9 +12,9 @@ use Rattle.works.specs.Answers.{answerOf, tableAfter}
 use Rattle.works.specs.Laws.Answers.{settled-any}
 use Rattle.works.specs.Inner.Asked.{runningIn}
 use Rattle.works.specs.Settling.{Outcome, settle}
-use Rattle.lists.specs.Tables.{Table, tableOf, units}
-use Rattle.lists.specs.Laws.Inside.{same-ranges}
-use Rattle.lists.specs.Laws.Parts.{first-restored, second-restored}
+use Rattle.levelling.specs.Tables.{Table, tableOf, units}
+use Rattle.levelling.specs.Laws.Inside.{same-ranges}
+use Rattle.levelling.specs.Laws.Parts.{first-restored, second-restored}
 use Rattle.works.specs.declared.Settling.{Settling}
 use Rattle.settling.proofs.passes.settle_core.Statement.{statement}
 use Rattle.settling.proofs.passes.settle_core.Tie as tie

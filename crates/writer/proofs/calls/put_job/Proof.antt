@@ -12,7 +12,7 @@ use Rattle.model.specs.Laws.Lists.{ranges-length}
 use Rattle.model.specs.Laws.Running.{marked-length}
 use Rattle.print.specs.Inner.Written.{Room}
 use Rattle.print.specs.Laws.Written.{Rest, begin, room-next, next, done, from-start}
-use Rattle.lists.specs.Laws.Parts.{part}
+use Rattle.levelling.specs.Laws.Parts.{part}
 use Rattle.writer.specs.Inner.Asked.{jobHeld}
 use Rattle.writer.specs.Laws.Course.{accepted-more}
 use Rattle.writer.specs.Laws.Held.{marks-room}

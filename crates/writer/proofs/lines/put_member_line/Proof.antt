@@ -10,7 +10,7 @@ use Rattle.model.specs.Groups.{Group}
 use Rattle.print.specs.Inner.Written.{Room}
 use Rattle.print.specs.Items.{items}
 use Rattle.print.specs.Laws.Written.{Rest, begin, room-next, next, done}
-use Rattle.lists.specs.Laws.Parts.{part}
+use Rattle.levelling.specs.Laws.Parts.{part}
 use Rattle.writer.specs.Inner.Pieces.{groupHead}
 use Rattle.writer.specs.Laws.Pieces.{group-printed}
 use Rattle.writer.specs.Texts.{memberLine}

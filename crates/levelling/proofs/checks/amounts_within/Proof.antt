@@ -1,0 +1,36 @@
+-- The tests, in turn. Assumes nothing.
+use borrow.Author.Needs.{needs}
+use borrow.Author.Tests.{le-leb, lt-leb, not-true, not-false}
+use Rattle.levelling.proofs.checks.amounts_within.Statement.{statement}
+use Rattle.levelling.proofs.checks.amounts_within.Tie as tie
+
+returns : tie.Need-returns
+returns c = rw (lt-leb _ _ (c .if1 .taken))
+
+within-requires : tie.Need-within-requires
+within-requires c κs = search needs
+
+returns-2 : tie.Need-returns-2
+returns-2 c =
+    rw (
+      le-leb _ _ (c .before .before .if1 .left),
+      ← c .before .within .ensures,
+      not-true (c .before .within .result) (c .if2 .taken),
+    )
+
+within-requires-2 : tie.Need-within-requires-2
+within-requires-2 c κs = search needs
+
+returns-3 : tie.Need-returns-3
+returns-3 c =
+    let first = c .before .before in
+    rw (
+      le-leb _ _ (first .before .if1 .left),
+      ← first .within .ensures,
+      not-false (first .within .result) (c .before .if2 .left),
+    )
+    (c .within2 .ensures)
+
+pub amounts-within-spec : {M : Type 1} → statement M
+amounts-within-spec =
+    tie.close (tie.spec returns within-requires returns-2 within-requires-2 returns-3)
