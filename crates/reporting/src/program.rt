@@ -7,28 +7,9 @@ use report::answers::print_answer;
 use report::lines::refusal_line;
 ghost use mathlib.Core.List.{_++_};
 ghost use mathlib.Core.Path.{_≡_};
-ghost use Prim.Native.Nat.{_≤_};
 ghost use lib.ListN.{length, drop};
-ghost use Rattle.job.specs.Job.{mostBytes};
-ghost use Rattle.report.specs.Inner.Printed.{Lent, Opened};
+ghost use Rattle.report.specs.Inner.Printed.{Lent};
 ghost use Rattle.report.specs.Program.{printedOf};
-
-// Reports a job over the table that its unit lines have filled, at the start of a buffer, and hands back the length of what is printed.
-fn print_report(
-    text: &[u8],
-    lows: &mut [u64],
-    highs: &mut [u64],
-    scratch: &mut [u64],
-    buffer: &mut [u8],
-) -> usize
-    requires { ⌜ Opened (now text) (now lows) (now highs) (length (now scratch)) ⌝ }
-    requires { ⌜ mostBytes ≤ length (now buffer) ⌝ }
-    ensures { λ r. ⌜ r ≡ length (printedOf (now (text .entry))) ⌝ }
-    ensures { λ r. ⌜ now (buffer .exit) ≡ printedOf (now (text .entry)) ++ drop r (now (buffer .entry)) ⌝ }
-{
-    let answer = report(text, lows, highs, scratch, buffer);
-    print_answer(answer, buffer)
-}
 
 // Fills a table from a job's unit lines and reports it, by way of lists that hold every job.
 fn print_by(
@@ -43,7 +24,10 @@ fn print_by(
     ensures { λ r. ⌜ now (buffer .exit) ≡ printedOf (now (text .entry)) ++ drop r (now (buffer .entry)) ⌝ }
 {
     match read(text, lows, highs) {
-        Reading::Read { .. } => print_report(text, lows, highs, scratch, buffer),
+        Reading::Read { .. } => {
+            let answer = report(text, lows, highs, scratch, buffer);
+            print_answer(answer, buffer)
+        }
         Reading::Refused(refusal) => refusal_line(refusal.number, refusal.place, buffer),
     }
 }

@@ -1,7 +1,7 @@
--- The table that is read opens the settling; a refusal's line is printed. Assumes nothing.
+-- The table that is read opens the settling, whose answer is printed; so is the line of a refusal. Assumes nothing.
 use borrow.Author.Needs.{needs}
 use mathlib.Core.Path.{refl}
-use Rattle.report.specs.Laws.Printed.{refused-prints, read-opens, refusal-printed}
+use Rattle.report.specs.Laws.Printed.{answer-prints, refused-prints, read-opens, refusal-printed}
 use Rattle.reporting.proofs.program.print_by.Statement.{statement}
 use Rattle.reporting.proofs.program.print_by.Tie as tie
 
@@ -11,10 +11,11 @@ read-requires c κs = search needs
 enum-told : tie.Need-enum-told
 enum-told c = search needs
 
-print-report-requires : tie.Need-print-report-requires
-print-report-requires c κs =
-    let start = c .before .before .before .before .before .before .before .before .before .before .before .before .before .before .before .before .before .before in
-    (read-opens (c .before .before .before .before .before .before .before .before .before .before .read .ensures) (c .before .before .before .before .enum-told .given .1) _ (start .pre .forScratch), start .pre .forBuffer)
+report-requires : tie.Need-report-requires
+report-requires c κs = search needs
+
+print-answer-requires : tie.Need-print-answer-requires
+print-answer-requires c κs = search needs
 
 enum-known-refusal : tie.Need-enum-known-refusal
 enum-known-refusal c = search needs
@@ -35,7 +36,14 @@ same-length-4 : tie.Need-same-length-4
 same-length-4 c = search needs
 
 returns : tie.Need-returns
-returns c = search needs
+returns c =
+    let call = c .before .before in
+    let reported = call .before .before .before .before .before .before .before .before .before .before in
+    let told = reported .before .before .before .before .before in
+    let read = told .before .before .before .before .before .before in
+    let lent = read .before .before .before .before .before .before .before .before .pre in
+    let opened = read-opens (read .read .ensures) (told .enum-told .given .1) _ (lent .forScratch) in
+    answer-prints opened _ (lent .forBuffer) (reported .report .ensures) (call .print-answer .ensures .0) (call .print-answer .ensures .1)
 
 same-length-5 : tie.Need-same-length-5
 same-length-5 c = search needs
@@ -57,7 +65,8 @@ print-by-spec =
     (tie.spec
     read-requires
     enum-told
-    print-report-requires
+    report-requires
+    print-answer-requires
     enum-known-refusal
     refusal-line-requires
     same-length
