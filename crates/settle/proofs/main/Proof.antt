@@ -33,9 +33,7 @@ large-buffer-requires : tie.Need-large-buffer-requires
 large-buffer-requires c κs = search needs
 
 array-share-prefix-text : tie.Need-array-share-prefix-text
-array-share-prefix-text c =
-    let told = c .before .before in
-    within-read (told .count .given .1) (told .before .before .before .read-input .ensures)
+array-share-prefix-text c = within-read (c .before .before .count .given .1) (c .before .before .before .before .before .read-input .ensures)
 
 slice-aggregate-print-job : tie.Need-slice-aggregate-print-job
 slice-aggregate-print-job c = sym (length-take-le _ _ (array-share-prefix-text (c .before)))
