@@ -2,3 +2,4 @@
 pub mod Narrowing
 pub mod Answers
 pub mod Promises
+pub mod Turns

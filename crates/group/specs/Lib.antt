@@ -1,4 +1,5 @@
 pub mod Narrowing
 pub mod Answers
 pub mod Promises
+pub mod Inner
 pub mod Laws

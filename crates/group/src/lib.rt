@@ -1,4 +1,5 @@
 // Levelling and narrowing one group on lists, checks first.
+use crate::running::narrow_running;
 use levelling::Check;
 use levelling::Levelling;
 use levelling::checks::amounts_within;
@@ -9,13 +10,14 @@ use model::Limits;
 use model::Question;
 use model::Refusal;
 use model::Turn;
-use narrow::ranges::narrow_running;
 ghost use mathlib.Core.Path.{_≡_};
 ghost use lib.ListN.{length};
 ghost use Rattle.model.specs.Levels.{levelled};
 ghost use Rattle.model.specs.Running.{markedLows, markedHighs};
 ghost use Rattle.levelling.specs.Levelling.{levelling, planAfter};
 ghost use Rattle.group.specs.Narrowing.{narrowing, listAfter};
+
+mod running;
 
 // Levels a group on lists.
 pub fn level(lows: &[u64], highs: &[u64], marks: &[u64], total: u64, plan: &mut [u64]) -> Levelling

@@ -5,21 +5,17 @@ use model::MOST_UNITS;
 use model::Question;
 use model::Turn;
 use model::lists::copy;
-use model::running::pack;
-use model::running::running_count;
-use model::running::unpack;
 use model::shares::has_shares;
 use probe::build::build;
 use probe::probing::level_on;
 use probe::terms::terms_of;
 ghost use mathlib.Core.Path.{_≡_};
 ghost use Prim.Native.Nat.{_≤_};
-ghost use lib.ListN.{length, take};
+ghost use lib.ListN.{length};
 ghost use Rattle.model.specs.Plans.{hasPlan, narrowedLows, narrowedHighs};
-ghost use Rattle.model.specs.Running.{Marked};
 ghost use Rattle.model.specs.Shares.{pick};
 ghost use Rattle.model.specs.Sound.{SoundRanges, HasShares};
-ghost use Rattle.narrow.specs.Inner.Turns.{NarrowedIf, Turned, MarkedTurned};
+ghost use Rattle.narrow.specs.Inner.Turns.{NarrowedIf, Turned};
 ghost use Rattle.narrow.specs.Inner.Tabled.{Tabled, TableLists, TableRoom};
 
 // Whether a group that has shares has a plan; if so, its narrowed ranges are written over starts and stops.
@@ -199,44 +195,4 @@ pub fn narrow_core(lows: &mut [u64], highs: &mut [u64], question: Question) -> T
         return Turn::NoPlan(12);
     }
     Turn::Narrowed
-}
-
-// The same for the first members of lists.
-fn narrow_front(lows: &mut [u64], highs: &mut [u64], count: usize, question: Question) -> Turn
-    requires { ⌜ SoundRanges (take count (now lows)) (take count (now highs)) ⌝ }
-    requires { ⌜ (count ≤ length (now lows)) × (count ≤ length (now highs)) ⌝ }
-    ensures { λ r. ⌜ Turned (take count (now (lows .entry))) (take count (now (highs .entry))) (question .total) (question .limits) r (take count (now (lows .exit))) (take count (now (highs .exit))) ⌝ }
-{
-    narrow_core(&mut lows[..count], &mut highs[..count], question)
-}
-
-// The same for the running members of lists: their numbers go to the front, and back to their places.
-fn narrow_packed(lows: &mut [u64], highs: &mut [u64], marks: &[u64], question: Question) -> Turn
-    requires { ⌜ SoundRanges (now lows) (now highs) ⌝ }
-    requires { ⌜ Marked (now marks) (now lows) (now highs) ⌝ }
-    ensures { λ r. ⌜ MarkedTurned (now (marks .entry)) (now (lows .entry)) (now (highs .entry)) (question .total) (question .limits) r (now (lows .exit)) (now (highs .exit)) ⌝ }
-{
-    let count = pack(marks, lows);
-    pack(marks, highs);
-    let turn = narrow_front(lows, highs, count, question);
-    unpack(marks, lows, count);
-    unpack(marks, highs, count);
-    turn
-}
-
-// Narrows the running members of sound lists in place, or says that there is no plan and leaves them as they were.
-pub fn narrow_running(
-    lows: &mut [u64],
-    highs: &mut [u64],
-    marks: &[u64],
-    question: Question,
-) -> Turn
-    requires { ⌜ SoundRanges (now lows) (now highs) ⌝ }
-    requires { ⌜ Marked (now marks) (now lows) (now highs) ⌝ }
-    ensures { λ r. ⌜ MarkedTurned (now (marks .entry)) (now (lows .entry)) (now (highs .entry)) (question .total) (question .limits) r (now (lows .exit)) (now (highs .exit)) ⌝ }
-{
-    if running_count(marks) == marks.len() {
-        return narrow_core(lows, highs, question);
-    }
-    narrow_packed(lows, highs, marks, question)
 }

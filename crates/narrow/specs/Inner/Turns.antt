@@ -4,7 +4,6 @@ use mathlib.Core.List.{List}
 use mathlib.Core.Path.{_≡_}
 use mathlib.Core.Bool.{Bool}
 use Rattle.model.specs.Plans.{hasPlan, turnOf, narrowedLows, narrowedHighs}
-use Rattle.model.specs.Running.{markedTurn, markedLows, markedHighs}
 use Rattle.model.specs.Shares.{pick}
 use Rattle.model.specs.declared.Limits.{Limits}
 use Rattle.model.specs.declared.Turn.{Turn}
@@ -26,9 +25,3 @@ pub record Turned (lows highs : List ℕ) (total : ℕ) (limits : Limits) (turn 
   pub answer : turn ≡ turnOf lows highs total limits
   pub lowsAre : lowsLeft ≡ afterTurn turn (narrowedLows lows highs total limits) lows
   pub highsAre : highsLeft ≡ afterTurn turn (narrowedHighs lows highs total limits) highs
-
--- the same of a group with marks
-pub record MarkedTurned (marks lows highs : List ℕ) (total : ℕ) (limits : Limits) (turn : Turn) (lowsLeft highsLeft : List ℕ) : Type 0 where
-  pub answer : turn ≡ markedTurn marks lows highs total limits
-  pub lowsAre : lowsLeft ≡ afterTurn turn (markedLows marks lows highs total limits) lows
-  pub highsAre : highsLeft ≡ afterTurn turn (markedHighs marks lows highs total limits) highs

@@ -2,8 +2,8 @@
 use borrow.Author.Needs.{needs}
 use mathlib.Core.Path.{sym, _∙_}
 use lib.Seq.{take-at, length-take-le}
-use Rattle.narrow.proofs.ranges.narrow_front.Statement.{statement}
-use Rattle.narrow.proofs.ranges.narrow_front.Tie as tie
+use Rattle.group.proofs.running.narrow_front.Statement.{statement}
+use Rattle.group.proofs.running.narrow_front.Tie as tie
 
 slice-relend-prefix-narrow-core : tie.Need-slice-relend-prefix-narrow-core
 slice-relend-prefix-narrow-core c = search needs

@@ -1,9 +1,9 @@
 -- Where nobody is shut, the lists are narrowed as they are. Assumes nothing.
 use borrow.Author.Needs.{needs}
 use mathlib.Core.Path.{sym, _∙_}
-use Rattle.narrow.specs.Laws.Turns.{turn-of-all}
-use Rattle.narrow.proofs.ranges.narrow_running.Statement.{statement}
-use Rattle.narrow.proofs.ranges.narrow_running.Tie as tie
+use Rattle.group.specs.Laws.Turns.{turn-of-all}
+use Rattle.group.proofs.running.narrow_running.Statement.{statement}
+use Rattle.group.proofs.running.narrow_running.Tie as tie
 
 running-count-requires : tie.Need-running-count-requires
 running-count-requires c κs = search needs

@@ -8,9 +8,9 @@ use lib.ListN.{length, take}
 use Rattle.model.specs.Running.{running}
 use Rattle.model.specs.Laws.Running.{marked-length, running-length, running-few}
 use Rattle.model.specs.Laws.Sound.{running-sound}
-use Rattle.narrow.specs.Laws.Turns.{turn-restored}
-use Rattle.narrow.proofs.ranges.narrow_packed.Statement.{statement}
-use Rattle.narrow.proofs.ranges.narrow_packed.Tie as tie
+use Rattle.group.specs.Laws.Turns.{turn-restored}
+use Rattle.group.proofs.running.narrow_packed.Statement.{statement}
+use Rattle.group.proofs.running.narrow_packed.Tie as tie
 
 pack-requires : tie.Need-pack-requires
 pack-requires c κs = marked-length (c .before .before .before .before .pre .1) .0
