@@ -11,16 +11,18 @@ pub struct Deviation(pub u64);
 #[derive(Clone, Copy, Debug, PartialEq, Eq, PartialOrd, Ord)]
 pub struct Spread(pub u64);
 
-/// A limit of a figure.
+/// A limit of a figure. It lies in memory as the header has it, the mark `any` and then the number, and crosses as it is.
+#[repr(u8)]
 #[derive(Clone, Copy, Debug, PartialEq, Eq)]
 pub enum Limit {
-    /// Limits nothing.
-    Any,
     /// The figure is at most this number.
-    AtMost(u64),
+    AtMost(u64) = 0,
+    /// Limits nothing.
+    Any = 1,
 }
 
 /// The two limits of a group.
+#[repr(C)]
 #[derive(Clone, Copy, Debug, PartialEq, Eq)]
 pub struct Limits {
     /// The deviation's limit, a number from 0 to 100,000,000,000.

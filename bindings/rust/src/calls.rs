@@ -6,6 +6,7 @@ use crate::foreign::{
 use crate::{Counts, Levelled, Limits, Range, Refusal, Reported, Unsettled};
 
 /// A refusal as an error, and number 0 as none.
+#[inline]
 fn accepted(refusal: Refusal) -> Result<(), Refusal> {
     match refusal.number {
         0 => Ok(()),
@@ -39,6 +40,7 @@ fn accepted(refusal: Refusal) -> Result<(), Refusal> {
 /// let uneven = level(&[0; 3], &[9, 0, 9], &[RUNNING; 3], 10, &mut plan).unwrap();
 /// assert_eq!((&plan[..3], uneven.deviation), (&[5, 0, 5][..], Deviation(20)));
 /// ```
+#[inline]
 pub fn level(lows: &[u64], highs: &[u64], marks: &[u64], total: u64, plan: &mut [u64]) -> Result<Levelled, Refusal> {
     // SAFETY: each pointer and count is a slice's, and no other slice overlaps the plan, which is borrowed mutably.
     let answer = unsafe {
@@ -80,6 +82,7 @@ pub fn level(lows: &[u64], highs: &[u64], marks: &[u64], total: u64, plan: &mut 
 /// assert_eq!((lows, highs), ([4, 0, 4], [6, 0, 6]));
 /// assert_eq!(narrow(&mut lows, &mut highs, &[RUNNING; 3], 10, limits).unwrap_err().number, 12);
 /// ```
+#[inline]
 pub fn narrow(lows: &mut [u64], highs: &mut [u64], marks: &[u64], total: u64, limits: Limits) -> Result<(), Refusal> {
     // SAFETY: each pointer and count is a slice's, and no other slice overlaps lows or highs, both borrowed mutably.
     accepted(unsafe {
@@ -91,7 +94,7 @@ pub fn narrow(lows: &mut [u64], highs: &mut [u64], marks: &[u64], total: u64, li
             marks.as_ptr(),
             marks.len(),
             total,
-            limits.into(),
+            limits,
         )
     })
 }

@@ -1,6 +1,6 @@
 //! The functions of libplanner.a and what crosses to them, as include/danivomel.h has it.
 
-use crate::{Deviation, Limit, Limits, Range, Refusal, Spread};
+use crate::{Deviation, Limits, Range, Refusal, Spread};
 
 /// What levelling answers; here and below a refusal's number 0 says that there is none.
 #[repr(C)]
@@ -9,35 +9,6 @@ pub struct ForeignLevelled {
     pub level: u64,
     pub deviation: Deviation,
     pub spread: Spread,
-}
-
-/// A limit.
-#[repr(C)]
-pub struct ForeignLimit {
-    any: bool,
-    at_most: u64,
-}
-
-/// A group's limits.
-#[repr(C)]
-pub struct ForeignLimits {
-    deviation: ForeignLimit,
-    spread: ForeignLimit,
-}
-
-impl From<Limit> for ForeignLimit {
-    fn from(limit: Limit) -> ForeignLimit {
-        match limit {
-            Limit::Any => ForeignLimit { any: true, at_most: 0 },
-            Limit::AtMost(at_most) => ForeignLimit { any: false, at_most },
-        }
-    }
-}
-
-impl From<Limits> for ForeignLimits {
-    fn from(limits: Limits) -> ForeignLimits {
-        ForeignLimits { deviation: limits.deviation.into(), spread: limits.spread.into() }
-    }
 }
 
 /// What reading answers.
@@ -91,7 +62,7 @@ extern "C" {
         marks: *const u64,
         marks_count: usize,
         total: u64,
-        limits: ForeignLimits,
+        limits: Limits,
     ) -> Refusal;
 
     pub fn danivomel_read(text: *const u8, text_count: usize, table: *mut Range, table_count: usize) -> ForeignCounts;
