@@ -26,7 +26,7 @@ struct Pinned {
     over: u64,
 }
 
-// Looks a pinned group up in the table, at the row below its level. The search for the row stands apart: what is left is
+// Looks a pinned group up in the table, at the row below its level. The row is searched for ahead of this: what is left is
 // small enough to be compiled into each caller.
 fn look(lows: &[u64], highs: &[u64], table: &[u64], terms: Terms, trial: Trial, k: usize) -> Pinned
     requires { ⌜ Lookable (now lows) (now highs) (now table) terms (trial .low) (trial .high) (trial .value) ⌝ }

@@ -14,8 +14,8 @@ pub record Risen (lows highs starts stops : List ℕ) : Type 0 where
   pub keptLows : List ℕ
   pub keptHighs : List ℕ
   pub kept : Kept lows highs keptLows keptHighs
-  pub startsFrom : Ordered 1 (length keptLows) keptLows starts
-  pub stopsFrom : Ordered 1 (length keptHighs) keptHighs stops
+  pub startsFrom : Ordered (length keptLows) keptLows starts
+  pub stopsFrom : Ordered (length keptHighs) keptHighs stops
 
 -- a row reached on the way up
 pub record RowReached (lows highs starts stops : List ℕ) (row : Row) : Type 0 where

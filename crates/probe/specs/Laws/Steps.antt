@@ -10,7 +10,7 @@ use Rattle.model.specs.Shares.{Ranges, greatestShare}
 use Rattle.model.specs.Sound.{SoundRanges}
 use Rattle.model.specs.Laws.Lists.{ranges-at}
 use Rattle.probe.specs.declared.rows.Row.{Row}
-use Rattle.probe.specs.Inner.Orders.{RisingBy}
+use Rattle.probe.specs.Inner.Orders.{Rising}
 use Rattle.probe.specs.Laws.Kept.{kept-ranges, kept-few, kept-span}
 use Rattle.probe.specs.Laws.Spans.{span}
 use Rattle.probe.specs.Laws.Walks.{rearranged-small, next-up, passes-none, passed-none, passed-one}
@@ -60,10 +60,10 @@ module _ {lows highs starts stops : List ℕ} (sound : SoundRanges lows highs) (
   stop-small = rearranged-small greatestShare (risen .stopsFrom .rearranged)
       (λ i below. omega (arith, ranges-at kept-in i (omega (arith, kept-few (risen .kept) .1))))
 
-  starts-rise : RisingBy 1 (length starts) starts
+  starts-rise : Rising (length starts) starts
   starts-rise = rw (risen .startsFrom .same) (risen .startsFrom .rising)
 
-  stops-rise : RisingBy 1 (length stops) stops
+  stops-rise : Rising (length stops) stops
   stops-rise = rw (risen .stopsFrom .same) (risen .stopsFrom .rising)
 
   module _ {row : Row} (walk : RowReached lows highs starts stops row) where

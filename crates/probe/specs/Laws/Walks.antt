@@ -4,7 +4,7 @@ use mathlib.Core.List.{List}
 use mathlib.Core.Path.{_≡_}
 use native.Mathlib.Omega.{arith}
 use lib.ListN.{length, getD}
-use Rattle.probe.specs.Inner.Orders.{RisingBy}
+use Rattle.probe.specs.Inner.Orders.{Rising}
 use Rattle.probe.specs.Laws.Orders.{rising}
 use Rattle.model.specs.Laws.Spread.{sumOf-bound}
 use Rattle.probe.specs.Inner.Spans.{Rearranged, Parted}
@@ -18,7 +18,7 @@ parted-none xs = record { few = omega arith; before = λ p h. absurd (omega arit
 pub parted-all : {m a w : ℕ} {xs : List ℕ} → Parted m m a xs → a ≡ length xs → Parted m w a xs
 parted-all parted all = record { few = parted .few; before = parted .before; after = λ p low h. absurd (omega arith) }
 
-module _ {m a : ℕ} {xs : List ℕ} (risen : RisingBy 1 (length xs) xs) (parted : Parted m m a xs) where
+module _ {m a : ℕ} {xs : List ℕ} (risen : Rising (length xs) xs) (parted : Parted m m a xs) where
   -- the next number is no less than the mark
   pub next-up : a < length xs → m ≤ getD xs a 0
   next-up more = parted .after a (omega arith) more
