@@ -8,7 +8,7 @@ use report::lines::refusal_line;
 ghost use mathlib.Core.List.{_++_};
 ghost use mathlib.Core.Path.{_≡_};
 ghost use lib.ListN.{length, drop};
-ghost use Rattle.report.specs.Inner.Printed.{Lent};
+ghost use Rattle.report.specs.Inner.Printed.{JobRoom};
 ghost use Rattle.report.specs.Program.{printedOf};
 
 // Fills a table from a job's unit lines and reports it, by way of lists that hold every job.
@@ -19,7 +19,7 @@ fn print_by(
     scratch: &mut [u64],
     buffer: &mut [u8],
 ) -> usize
-    requires { ⌜ Lent (now lows) (now highs) (now scratch) (now buffer) ⌝ }
+    requires { ⌜ JobRoom (now lows) (now highs) (now scratch) (now buffer) ⌝ }
     ensures { λ r. ⌜ r ≡ length (printedOf (now (text .entry))) ⌝ }
     ensures { λ r. ⌜ now (buffer .exit) ≡ printedOf (now (text .entry)) ++ drop r (now (buffer .entry)) ⌝ }
 {

@@ -12,7 +12,7 @@ ghost use mathlib.Core.Path.{_≡_};
 ghost use Prim.Native.Nat.{_≤_};
 ghost use lib.ListN.{length, drop};
 ghost use Rattle.job.specs.Job.{mostBytes};
-ghost use Rattle.report.specs.Inner.Printed.{Lent, Opened};
+ghost use Rattle.report.specs.Inner.Printed.{JobRoom, Opened};
 ghost use Rattle.writer.specs.Calls.{writtenText, writeText};
 ghost use Rattle.writer.specs.Handing.{handedOn};
 ghost use Rattle.writer.specs.Inner.Asked.{LetThrough, SettledFrom};
@@ -77,7 +77,7 @@ fn hand_on_by(
     scratch: &mut [u64],
     buffer: &mut [u8],
 ) -> usize
-    requires { ⌜ Lent (now lows) (now highs) (now scratch) (now buffer) ⌝ }
+    requires { ⌜ JobRoom (now lows) (now highs) (now scratch) (now buffer) ⌝ }
     ensures { λ r. ⌜ r ≡ length (handedOn (now (text .entry))) ⌝ }
     ensures { λ r. ⌜ now (buffer .exit) ≡ handedOn (now (text .entry)) ++ drop r (now (buffer .entry)) ⌝ }
 {

@@ -12,7 +12,7 @@ use Rattle.model.specs.Shares.{mostUnits}
 use Rattle.report.specs.declared.Reporting.the-variants.{Written, NoPlan, Refused}
 
 -- lists and a buffer with room for every job
-pub record Lent (lows highs scratch buffer : List ℕ) : Type 0 where
+pub record JobRoom (lows highs scratch buffer : List ℕ) : Type 0 where
   pub forLows : mostUnits ≤ length lows
   pub forHighs : mostUnits ≤ length highs
   pub forScratch : 8 * mostUnits ≤ length scratch

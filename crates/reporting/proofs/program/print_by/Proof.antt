@@ -41,9 +41,9 @@ returns c =
     let reported = call .before .before .before .before .before .before .before .before .before .before in
     let told = reported .before .before .before .before .before in
     let read = told .before .before .before .before .before .before in
-    let lent = read .before .before .before .before .before .before .before .before .pre in
-    let opened = read-opens (read .read .ensures) (told .enum-told .given .1) _ (lent .forScratch) in
-    answer-prints opened _ (lent .forBuffer) (reported .report .ensures) (call .print-answer .ensures .0) (call .print-answer .ensures .1)
+    let room = read .before .before .before .before .before .before .before .before .pre in
+    let opened = read-opens (read .read .ensures) (told .enum-told .given .1) _ (room .forScratch) in
+    answer-prints opened _ (room .forBuffer) (reported .report .ensures) (call .print-answer .ensures .0) (call .print-answer .ensures .1)
 
 same-length-5 : tie.Need-same-length-5
 same-length-5 c = search needs

@@ -22,8 +22,8 @@ hand-settled-requires : tie.Need-hand-settled-requires
 hand-settled-requires c κs =
     let told = c .before .before .before .before in
     let read = told .before .before .before .before .before .before in
-    let lent = start read .pre in
-    (read-opens (read .read .ensures) (told .enum-told .given .1) _ (lent .forScratch), lent .forBuffer)
+    let room = start read .pre in
+    (read-opens (read .read .ensures) (told .enum-told .given .1) _ (room .forScratch), room .forBuffer)
 
 enum-known-refusal : tie.Need-enum-known-refusal
 enum-known-refusal c = search needs
@@ -61,8 +61,8 @@ returns-2 c =
     let line = c .before .before in
     let told = line .before .before .before in
     let read = told .before .before .before .before .before .before in
-    let lent = start read .pre in
-    let refuses = read-refused (read .read .ensures) (lent .forLows) (lent .forHighs) (told .refusal .given .1) in
+    let room = start read .pre in
+    let refuses = read-refused (read .read .ensures) (room .forLows) (room .forHighs) (told .refusal .given .1) in
     refusal-printed (handed-read _ refuses) refl (line .refusal-line .ensures .0) (line .refusal-line .ensures .1)
 
 pub hand-on-by-spec : {M : Type 1} → statement M
