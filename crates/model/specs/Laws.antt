@@ -11,6 +11,7 @@ pub mod Level
 pub mod Levelled
 pub mod Spread
 pub mod Deviation
+pub mod Pairs
 pub mod Plans
 pub mod Search
 pub mod Pinned

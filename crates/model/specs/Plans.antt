@@ -12,7 +12,7 @@ use Rattle.model.specs.declared.Limits.{Limits}
 use Rattle.model.specs.declared.Turn.{Turn}
 use Rattle.model.specs.declared.Turn.the-variants.{Narrowed, NoPlan}
 
--- 01: a plan gives "each member a share in its range, adding up to S, with both figures within the limits"
+-- 01: a plan gives "each member a share in its range, adding up to S, with both figures within the limits"; 02: "three limits"
 pub record Plan (lows highs : List ℕ) (total : ℕ) (limits : Limits) (xs : List ℕ) : Type 0 where
   pub within : Within lows highs xs
   pub adds : sum xs ≡ total

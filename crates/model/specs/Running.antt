@@ -6,7 +6,7 @@ use mathlib.Core.Path.{_≡_}
 use lib.Dec.{eqb}
 use lib.ListN.{length, getD}
 use Rattle.model.specs.Shares.{sum, Within}
-use Rattle.model.specs.Figures.{deviation, spread, above, figuresOf, met, deviationBound}
+use Rattle.model.specs.Figures.{deviation, spread, pairs, above, figuresOf, met, deviationBound}
 use Rattle.model.specs.Plans.{turnOf, narrowedLows, narrowedHighs}
 use Rattle.model.specs.declared.Figures.{Figures}
 use Rattle.model.specs.declared.Limits.{Limits}
@@ -41,7 +41,11 @@ markedDeviation marks total xs = deviation (length (running marks xs)) total (ru
 abbrev pub markedSpread : List ℕ → ℕ → List ℕ → ℕ
 markedSpread marks total xs = spread (length (running marks xs)) total (running marks xs)
 
--- both figures
+-- 02: "over all pairs of running members"
+abbrev pub markedPairs : List ℕ → List ℕ → ℕ
+markedPairs marks xs = pairs (running marks xs)
+
+-- all three
 abbrev pub markedFigures : List ℕ → ℕ → List ℕ → Figures
 markedFigures marks total xs = figuresOf (length (running marks xs)) total (running marks xs)
 
@@ -53,7 +57,7 @@ markedBound marks total lows highs = deviationBound (length (running marks lows)
 abbrev pub markedAbove : List ℕ → ℕ → List ℕ → ℕ
 markedAbove marks t xs = above t (running marks xs)
 
--- 01: a plan gives "each member a share in its range, adding up to S, with both figures within the limits"; 02: the running members' figures
+-- 01: a plan gives "each member a share in its range, adding up to S, with both figures within the limits"; 02: the running members' figures, all three
 pub record MarkedPlan (marks lows highs : List ℕ) (total : ℕ) (limits : Limits) (xs : List ℕ) : Type 0 where
   pub within : Within lows highs xs
   pub adds : sum xs ≡ total

@@ -22,6 +22,9 @@ pub const GREATEST_DEVIATION: u64 = 100_000_000_000;
 // A spread limit is at most this.
 pub const GREATEST_SPREAD: u64 = 100_000_000_000_000_000;
 
+// A pairs limit is at most this.
+pub const GREATEST_PAIRS: u64 = 100_000_000_000;
+
 // The mark of a unit that runs.
 pub const RUNNING: u64 = 0;
 
@@ -77,10 +80,14 @@ impl Spread {
     }
 }
 
+// The sum of larger less smaller share over all pairs: n × S times the Gini coefficient of document 003.
+pub struct Pairs(pub u64);
+
 // The figures of a group's shares.
 pub struct Figures {
     pub deviation: Deviation,
     pub spread: Spread,
+    pub pairs: Pairs,
 }
 
 // A limit is a number or the word any.
@@ -105,6 +112,7 @@ impl Limit {
 pub struct Limits {
     pub deviation: Limit,
     pub spread: Limit,
+    pub pairs: Limit,
 }
 
 // What is asked of a group's members: a total to share out, within limits.

@@ -8,12 +8,13 @@ use lib.Dec.{leb}
 use lib.ListN.{length}
 use borrow.Author.Tests.{le-leb, leb-true}
 use Rattle.model.specs.Shares.{Ranges, Within, sum}
-use Rattle.model.specs.Figures.{allows, meets, deviation, spread, above}
+use Rattle.model.specs.Figures.{allows, meets, deviation, spread, pairs, above}
 use Rattle.model.specs.Levels.{levelled}
 use Rattle.model.specs.Plans.{Plan, hasShares, hasPlan}
 use Rattle.model.specs.Laws.Tests.{both, both-left, both-right}
 use Rattle.model.specs.Transfers.{SchurConvex}
 use Rattle.model.specs.Laws.Transfer.{deviation-schur, spread-schur, above-schur}
+use Rattle.model.specs.Laws.Pairs.{pairs-schur}
 use Rattle.model.specs.Laws.Least.{least}
 use Rattle.model.specs.Laws.Levelled.{levelled-within, levelled-even, levelled-adds, within-sum-low, within-sum-high}
 use Rattle.model.specs.declared.Limit.{Limit}
@@ -29,10 +30,12 @@ allows-less (AtMost most) {f} {g} less held = le-leb g most (omega (arith, leb-t
 pub meets-less : (limits : Limits) (n total : ℕ) (xs ys : List ℕ)
     → ((F : List ℕ → ℕ) → SchurConvex F → F ys ≤ F xs) → meets limits n total xs ≡ true → meets limits n total ys ≡ true
 meets-less limits n total xs ys less held =
+    let others = both-right (allows (limits .deviation) (deviation n total xs)) _ held in
     both
     (allows-less (limits .deviation) (less (deviation n total) (deviation-schur n total)) (both-left _ _ held))
-    (allows-less (limits .spread) (less (spread n total) (spread-schur n total))
-    (both-right (allows (limits .deviation) (deviation n total xs)) _ held))
+    (both
+    (allows-less (limits .spread) (less (spread n total) (spread-schur n total)) (both-left _ _ others))
+    (allows-less (limits .pairs) (less pairs pairs-schur) (both-right (allows (limits .spread) (spread n total xs)) _ others)))
 
 -- the levelled shares have the least of every figure that an exchange never raises, among the shares with their total
 pub levelled-least : {lows highs xs : List ℕ} → Ranges lows highs → (total : ℕ) → Within lows highs xs → sum xs ≡ total
@@ -43,7 +46,7 @@ levelled-least {lows} {highs} {xs} ranges total within adds F convex =
     least convex (levelled-within ranges total) (levelled-even ranges total) within
     (adds ∙ sym (levelled-adds ranges total low high))
 
--- so the least deviation, the least spread and the least total above every t
+-- so the least deviation, the least spread, the least pair differences and the least total above every t
 pub least-deviation : {lows highs xs : List ℕ} → Ranges lows highs → (total : ℕ) → Within lows highs xs → sum xs ≡ total
     → (n : ℕ) → deviation n total (levelled lows highs total) ≤ deviation n total xs
 least-deviation ranges total within adds n = levelled-least ranges total within adds (deviation n total) (deviation-schur n total)
@@ -51,6 +54,10 @@ least-deviation ranges total within adds n = levelled-least ranges total within 
 pub least-spread : {lows highs xs : List ℕ} → Ranges lows highs → (total : ℕ) → Within lows highs xs → sum xs ≡ total
     → (n : ℕ) → spread n total (levelled lows highs total) ≤ spread n total xs
 least-spread ranges total within adds n = levelled-least ranges total within adds (spread n total) (spread-schur n total)
+
+pub least-pairs : {lows highs xs : List ℕ} → Ranges lows highs → (total : ℕ) → Within lows highs xs → sum xs ≡ total
+    → pairs (levelled lows highs total) ≤ pairs xs
+least-pairs ranges total within adds = levelled-least ranges total within adds pairs pairs-schur
 
 pub least-above : {lows highs xs : List ℕ} → Ranges lows highs → (total : ℕ) → Within lows highs xs → sum xs ≡ total
     → (t : ℕ) → above t (levelled lows highs total) ≤ above t xs

@@ -6,13 +6,14 @@ use mathlib.Core.Path.{_≡_, refl, sym, ap, subst, _∙_}
 use native.Mathlib.Omega.{arith}
 use lib.ListN.{length}
 use Rattle.model.specs.Shares.{Ranges, Within, sum, sumOf}
-use Rattle.model.specs.Figures.{deviation, spread, above}
+use Rattle.model.specs.Figures.{deviation, spread, pairs, above}
 use Rattle.model.specs.Levels.{levelled}
-use Rattle.model.specs.Running.{running, restored, Marked, MarkedPlan, MarkedPlans, markedDeviation, markedSpread, markedAbove, markedBound}
+use Rattle.model.specs.Running.{running, restored, Marked, MarkedPlan, MarkedPlans, markedDeviation, markedSpread, markedPairs, markedAbove, markedBound}
 use Rattle.model.specs.Transfers.{SchurConvex}
 use Rattle.model.specs.Verdicts.{Shares, Plans}
 use Rattle.model.specs.Laws.Deviation.{deviation-bound, levelled-reaches-bound}
 use Rattle.model.specs.Laws.Levelled.{levelled-within}
+use Rattle.model.specs.Laws.Pairs.{pairs-schur}
 use Rattle.model.specs.Laws.Plans.{levelled-least, found-plan, plan-found}
 use Rattle.model.specs.Laws.Running.{running-ranges, running-within, running-sum, running-levelled, running-lows, running-highs}
 use Rattle.model.specs.Laws.Marked.{running-counted, restored-within, running-restored, restored-running, marked-plan, plan-marked}
@@ -31,7 +32,7 @@ module _ {ms ls hs : List ℕ} (marked : Marked ms ls hs) (ranges : Ranges ls hs
   levelled-many : {xs : List ℕ} → Within ls hs xs → length (running ms (levelled ls hs total)) ≡ length (running ms xs)
   levelled-many within = running-counted ms (levelled-within ranges total) ∙ sym (running-counted ms within)
 
-  -- so the least deviation, the least spread and the least total above every t, of the running members
+  -- so the least deviation, the least spread, the least pair differences and the least total above every t, of the running members
   pub marked-least-deviation : {xs : List ℕ} → Within ls hs xs → sum xs ≡ total
       → markedDeviation ms total (levelled ls hs total) ≤ markedDeviation ms total xs
   marked-least-deviation {xs} within adds =
@@ -41,6 +42,9 @@ module _ {ms ls hs : List ℕ} (marked : Marked ms ls hs) (ranges : Ranges ls hs
       → markedSpread ms total (levelled ls hs total) ≤ markedSpread ms total xs
   marked-least-spread {xs} within adds =
       rw (levelled-many within) (marked-least within adds (spread (length (running ms xs)) total) (spread-schur (length (running ms xs)) total))
+
+  pub marked-least-pairs : {xs : List ℕ} → Within ls hs xs → sum xs ≡ total → markedPairs ms (levelled ls hs total) ≤ markedPairs ms xs
+  marked-least-pairs within adds = marked-least within adds pairs pairs-schur
 
   pub marked-least-above : {xs : List ℕ} → Within ls hs xs → sum xs ≡ total → (t : ℕ)
       → markedAbove ms t (levelled ls hs total) ≤ markedAbove ms t xs

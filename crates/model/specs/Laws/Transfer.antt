@@ -55,7 +55,7 @@ sumOf-schur {f} c = record {
 }
 
 -- a sum of convex functions is convex
-plus-convex : {f g : ℕ → ℕ} → Convex f → Convex g → Convex (λ x. f x + g x)
+pub plus-convex : {f g : ℕ → ℕ} → Convex f → Convex g → Convex (λ x. f x + g x)
 plus-convex c d = record { bends = λ a b h. omega (arith, c .bends a b h, d .bends a b h) }
 
 -- the copies over the mean and under it, n times, are convex
@@ -76,6 +76,13 @@ square-convex = record { bends = λ a b h. omega arith }
 -- a share's copies above t are convex
 above-convex : (t : ℕ) → Convex (λ x. x - t)
 above-convex t = record { bends = λ a b h. omega arith }
+
+-- a share's copies below t are convex, and so is its distance from t
+below-convex : (t : ℕ) → Convex (λ x. t - x)
+below-convex t = record { bends = λ a b h. omega arith }
+
+pub apart-convex : (t : ℕ) → Convex (λ x. apart x t)
+apart-convex t = plus-convex (above-convex t) (below-convex t)
 
 -- the deviation is never raised by an exchange
 pub deviation-schur : (n total : ℕ) → SchurConvex (deviation n total)

@@ -1,0 +1,87 @@
+-- The pair differences: twice they are the distances of every share from every share, and an exchange never raises them. Assumes nothing.
+use Prim.Native.Nat.{ℕ, _+_, _*_, _≤_}
+use mathlib.Core.List.{List, [], _∷_}
+use mathlib.Core.Path.{_≡_, refl, sym, _∙_}
+use native.Mathlib.Omega.{arith}
+use lib.ListN.{length, getD}
+use Rattle.model.specs.Shares.{sumOf}
+use Rattle.model.specs.Figures.{apart, pairs}
+use Rattle.model.specs.Transfers.{transfer, SchurConvex, Convex}
+use Rattle.model.specs.Laws.Transfer.{plus-convex, sumOf-schur, apart-convex}
+
+-- the distances of every share of one list from every share of another
+unfoldable pub distances : List ℕ → List ℕ → ℕ
+distances xs ys = sumOf (λ y. sumOf (apart y) xs) ys
+
+-- a sum of sums of two functions
+sumOf-plus : (f g : ℕ → ℕ) (xs : List ℕ) → sumOf (λ x. f x + g x) xs ≡ sumOf f xs + sumOf g xs
+unfolding sumOf
+sumOf-plus f g [] = refl
+sumOf-plus f g (x ∷ xs) = omega (arith, sumOf-plus f g xs)
+
+-- a sum of nothing
+sumOf-none : (xs : List ℕ) → sumOf (λ x. 0) xs ≡ 0
+unfolding sumOf
+sumOf-none [] = refl
+sumOf-none (x ∷ xs) = omega (arith, sumOf-none xs)
+
+-- sums of the same parts are the same
+sumOf-same : (f g : ℕ → ℕ) → ((x : ℕ) → f x ≡ g x) → (xs : List ℕ) → sumOf f xs ≡ sumOf g xs
+unfolding sumOf
+sumOf-same f g same [] = refl
+sumOf-same f g same (x ∷ xs) = omega (arith, same x, sumOf-same f g same xs)
+
+-- from either side, a distance is the same
+apart-swap : (x y : ℕ) → apart x y ≡ apart y x
+apart-swap x y = omega arith
+
+-- one share more in the list that distances are taken from
+distances-more : (x : ℕ) (xs ys : List ℕ) → distances (x ∷ xs) ys ≡ sumOf (apart x) ys + distances xs ys
+unfolding distances sumOf
+distances-more x xs ys =
+    sumOf-plus (λ y. apart y x) (λ y. sumOf (apart y) xs) ys
+    ∙ omega (arith, sumOf-same (λ y. apart y x) (apart x) (λ y. apart-swap y x) ys)
+
+-- twice the pair differences
+pub pairs-twice : (xs : List ℕ) → 2 * pairs xs ≡ distances xs xs
+unfolding pairs distances sumOf
+pairs-twice [] = refl
+pairs-twice (x ∷ xs) = omega (arith, pairs-twice xs, distances-more x xs xs)
+
+-- the distances from the shares of a list are convex
+distances-convex : (xs : List ℕ) → Convex (λ y. sumOf (apart y) xs)
+unfolding sumOf
+distances-convex [] = record { bends = λ a b h. omega arith }
+distances-convex (x ∷ xs) = plus-convex (apart-convex x) (distances-convex xs)
+
+-- so that an exchange in one of two lists never raises the distances between them
+distances-schur : (xs : List ℕ) → SchurConvex (distances xs)
+unfolding distances
+distances-schur xs = sumOf-schur (distances-convex xs)
+
+-- distances are the same from either list
+distances-swap : (xs ys : List ℕ) → distances xs ys ≡ distances ys xs
+unfolding distances sumOf
+distances-swap [] ys = sumOf-none ys
+distances-swap (x ∷ xs) ys = distances-more x xs ys ∙ omega (arith, distances-swap xs ys)
+
+-- the pair differences are never raised by an exchange: it is made in one of the two lists after the other
+pub pairs-schur : SchurConvex pairs
+pairs-schur = record {
+  lowers = λ xs i j p q h.
+      let ys : List ℕ = transfer i j xs in
+      omega (
+        arith,
+        pairs-twice xs,
+        pairs-twice ys,
+        distances-schur ys .lowers xs i j p q h,
+        distances-swap ys xs,
+        distances-schur xs .lowers xs i j p q h,
+      );
+}
+
+-- shares of which every sum is the same have the same pair differences
+pub pairs-same : (xs ys : List ℕ) → ((f : ℕ → ℕ) → sumOf f xs ≡ sumOf f ys) → pairs xs ≡ pairs ys
+unfolding distances
+pairs-same xs ys same =
+    omega (arith, pairs-twice xs, pairs-twice ys, same (λ y. sumOf (apart y) xs), sumOf-same (λ y. sumOf (apart y) xs) (λ y. sumOf (apart y) ys) (λ y. same (apart y)) ys)
