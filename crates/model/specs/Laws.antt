@@ -27,3 +27,5 @@ pub mod Packing
 pub mod Sound
 pub mod Bounds
 pub mod Known
+pub mod Shuffles
+pub mod Orders

@@ -11,4 +11,5 @@ pub mod Even
 pub mod Narrowing
 pub mod Transfers
 pub mod Verdicts
+pub mod Inner
 pub mod Laws

@@ -4,9 +4,11 @@ ghost use Prim.Native.Nat.{_-_, _*_, _≤_};
 ghost use Rattle.model.specs.Figures.{limitWithin};
 ghost use Rattle.model.specs.Shares.{checked};
 
+pub mod differences;
 pub mod levels;
 pub mod lists;
 pub mod numbers;
+pub mod order;
 pub mod running;
 pub mod shares;
 

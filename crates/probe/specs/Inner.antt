@@ -1,7 +1,6 @@
 -- What only inner contracts use, a file for each topic.
 pub mod Figures
 pub mod Kept
-pub mod Orders
 pub mod Pinned
 pub mod Probes
 pub mod Rows

@@ -3,12 +3,10 @@ pub mod Alike
 pub mod Figures
 pub mod Fills
 pub mod Kept
-pub mod Orders
 pub mod Pinned
 pub mod Probes
 pub mod Reaching
 pub mod Rows
-pub mod Shuffles
 pub mod Sides
 pub mod Spans
 pub mod Steps

@@ -1,8 +1,8 @@
 // Building the breakpoint table of a group: the bounds of the members with several values sorted, then a row for each.
-use crate::order::sort;
 use crate::rows::write_row;
 use crate::table::first_row;
 use crate::table::next_row;
+use model::order::sort;
 ghost use mathlib.Core.Path.{_≡_};
 ghost use Prim.Native.Nat.{_+_, _*_, _≤_};
 ghost use lib.Dec.{ltb};

@@ -2,7 +2,6 @@
 pub mod build;
 pub mod figures;
 pub mod newton;
-pub mod order;
 pub mod pinned;
 pub mod probing;
 pub mod rows;

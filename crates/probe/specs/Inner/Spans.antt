@@ -1,14 +1,10 @@
--- Rearranged lists, and the bounds passed from one breakpoint to the next. Assumes nothing.
+-- The bounds passed from one breakpoint to the next. Assumes nothing.
 use Prim.Native.Nat.{ℕ, _+_, _*_, _≤_, _<_}
 use mathlib.Core.List.{List}
 use mathlib.Core.Path.{_≡_}
 use lib.ListN.{length, getD}
 use Rattle.model.specs.Shares.{sumOf}
 use Rattle.model.specs.Levels.{clamped}
-
--- one list is a rearrangement of the other: no sum tells them apart
-pub record Rearranged (xs ys : List ℕ) : Type 0 where
-  pub sums : (f : ℕ → ℕ) → sumOf f xs ≡ sumOf f ys
 
 -- the first a numbers are at most m, and the others are at least w
 pub record Parted (m w a : ℕ) (xs : List ℕ) : Type 0 where

@@ -5,7 +5,7 @@ use mathlib.Core.Path.{_≡_}
 use lib.ListN.{length}
 use Rattle.probe.specs.declared.rows.Row.{Row}
 use Rattle.probe.specs.Inner.Kept.{Kept}
-use Rattle.probe.specs.Inner.Orders.{Ordered}
+use Rattle.model.specs.Inner.Orders.{Ordered}
 use Rattle.probe.specs.Inner.Spans.{Parted}
 use Rattle.probe.specs.Inner.Tables.{Sums, SpanTo}
 

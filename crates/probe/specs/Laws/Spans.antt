@@ -9,7 +9,8 @@ use Rattle.model.specs.Shares.{Ranges, sumOf}
 use Rattle.model.specs.Laws.Lists.{ranges-length}
 use Rattle.model.specs.Laws.Spread.{sumOf-bound}
 use Rattle.probe.specs.Laws.Sums.{clamped-sum, part-at-most}
-use Rattle.probe.specs.Inner.Spans.{Rearranged, Parted, Span}
+use Rattle.model.specs.Inner.Orders.{Rearranged}
+use Rattle.probe.specs.Inner.Spans.{Parted, Span}
 
 -- 0 exactly where x is not between m and w
 abbrev depth : ℕ → ℕ → ℕ → ℕ

@@ -10,7 +10,7 @@ use Rattle.model.specs.Shares.{Ranges, greatestShare}
 use Rattle.model.specs.Sound.{SoundRanges}
 use Rattle.model.specs.Laws.Lists.{ranges-at}
 use Rattle.probe.specs.declared.rows.Row.{Row}
-use Rattle.probe.specs.Inner.Orders.{Rising}
+use Rattle.model.specs.Inner.Orders.{Rising}
 use Rattle.probe.specs.Laws.Kept.{kept-ranges, kept-few, kept-span}
 use Rattle.probe.specs.Laws.Spans.{span}
 use Rattle.probe.specs.Laws.Walks.{rearranged-small, next-up, passes-none, passed-none, passed-one}

@@ -4,10 +4,10 @@ use mathlib.Core.List.{List}
 use mathlib.Core.Path.{_≡_}
 use native.Mathlib.Omega.{arith}
 use lib.ListN.{length, getD}
-use Rattle.probe.specs.Inner.Orders.{Rising}
-use Rattle.probe.specs.Laws.Orders.{rising}
+use Rattle.model.specs.Inner.Orders.{Rearranged, Rising}
+use Rattle.model.specs.Laws.Orders.{rising}
 use Rattle.model.specs.Laws.Spread.{sumOf-bound}
-use Rattle.probe.specs.Inner.Spans.{Rearranged, Parted}
+use Rattle.probe.specs.Inner.Spans.{Parted}
 use Rattle.probe.specs.Laws.Sums.{part-at-most}
 
 -- no number is passed at 0
