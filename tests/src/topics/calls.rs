@@ -115,6 +115,7 @@ fn settle_faults() -> Vec<Fault<Call>> {
     faults.extend(range_faults());
     faults.push(fault(11, 1, |call| call.text = call.text.replace("group 21", "group 41")));
     faults.push(fault(12, 1, |call| call.text = call.text.replace("dev any", "dev 13")));
+    faults.push(fault(12, 1, |call| call.text = call.text.replace(") (of", ") (pairs 6) (of")));
     faults
 }
 
@@ -136,7 +137,9 @@ fn bad_texts() -> Vec<(u64, u64, String)> {
         (14, 2, "(unit 0 9)\n(unit 0 9))\n".to_string()),
         (15, 2, "(unit 0 9)\n(units 0 9)\n".to_string()),
         (3, 2, "(unit 0 9)\n(shut 0 0)\n".to_string()),
+        (3, 2, group("1) (pairs 5")),
         (4, 1, "(unit 0 1000001)\n".to_string()),
+        (4, 2, group("1").replace(" (of", " (pairs 100000000001) (of")),
         (5, 3, group("1") + "(unit 0 9)\n"),
         (5, 3, group("1") + "(shut)\n"),
         (6, 257, "(unit 0 9)\n".repeat(257)),

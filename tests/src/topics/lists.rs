@@ -74,10 +74,12 @@ fn narrow_faults() -> Vec<Fault<Lists>> {
     faults.push(fault(4, 0, |lists| lists.total = 256_000_001));
     faults.push(fault(4, 0, |lists| lists.limits.deviation = Limit::AtMost(100_000_000_001)));
     faults.push(fault(4, 0, |lists| lists.limits.spread = Limit::AtMost(100_000_000_000_000_001)));
+    faults.push(fault(4, 0, |lists| lists.limits.pairs = Limit::AtMost(100_000_000_001)));
     faults.extend(order_faults());
     faults.push(fault(11, 0, |lists| lists.total = 151));
     faults.push(fault(12, 0, |lists| lists.limits.deviation = Limit::AtMost(1)));
     faults.push(fault(12, 0, |lists| lists.limits.spread = Limit::AtMost(1)));
+    faults.push(fault(12, 0, |lists| lists.limits.pairs = Limit::AtMost(1)));
     faults
 }
 
