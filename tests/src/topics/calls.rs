@@ -40,6 +40,7 @@ pub fn run_settle(checks: &mut Checks, who: &str, settle: Settle) {
         };
         each_bad_text(&sound(), &mut refused);
         each_combination(&sound(), &settle_faults(), &mut refused);
+        each_combination(&sound(), &pairs_faults(), &mut refused);
     });
 }
 
@@ -60,6 +61,7 @@ pub fn run_report(checks: &mut Checks, who: &str, report: Report) {
         };
         each_bad_text(&sound(), &mut refused);
         each_combination(&sound(), &faults, &mut refused);
+        each_combination(&sound(), &pairs_faults(), &mut refused);
     });
 }
 
@@ -113,10 +115,24 @@ fn settle_faults() -> Vec<Fault<Call>> {
     faults.extend(table_faults());
     faults.push(fault(1, 0, |call| call.scratch = 31));
     faults.extend(range_faults());
-    faults.push(fault(11, 1, |call| call.text = call.text.replace("group 21", "group 41")));
-    faults.push(fault(12, 1, |call| call.text = call.text.replace("dev any", "dev 13")));
+    faults.extend(plan_faults());
+    faults
+}
+
+/// Faults of each of these kinds, every third one, and a pairs limit that no plan meets.
+fn pairs_faults() -> Vec<Fault<Call>> {
+    let others = text_faults().into_iter().chain(table_faults()).chain(range_faults());
+    let mut faults: Vec<Fault<Call>> = others.step_by(3).chain(plan_faults()).collect();
     faults.push(fault(12, 1, |call| call.text = call.text.replace(") (of", ") (pairs 6) (of")));
     faults
+}
+
+/// A total out of reach, and a deviation limit that no plan meets.
+fn plan_faults() -> Vec<Fault<Call>> {
+    vec![
+        fault(11, 1, |call| call.text = call.text.replace("group 21", "group 41")),
+        fault(12, 1, |call| call.text = call.text.replace("dev any", "dev 13")),
+    ]
 }
 
 /// Faults of the text.

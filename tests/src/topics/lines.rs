@@ -91,7 +91,9 @@ fn shut_sets(topic: &mut Topic, read: Read) {
 fn group_sets(topic: &mut Topic, read: Read) {
     let numbers = with_ailments(&[4, 4, 4, 4, 6, 6, 8, 8, 9]);
     let all: Vec<String> = (1..=64).map(|number| number.to_string()).collect();
-    for set in 1u32..1 << numbers.len() {
+    // a pairs limit beyond its range goes with 64 short groups, and not with 4,096 memberships, which take long to read
+    let tried = |set: &u32| !(has(own_of(*set), 3) && has(own_of(*set), 5));
+    for set in (1u32..1 << numbers.len()).filter(tried) {
         let own = own_of(set);
         let mut text = "(unit 0 9)\n".repeat(64);
         let members = if has(own, 5) { all.join(" ") } else { "1".to_string() };
