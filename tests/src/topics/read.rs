@@ -51,7 +51,7 @@ pub fn refused(topic: &mut Topic, read: Read, text: &[u8], number: u64, place: u
 }
 
 /// Checks that a text is read as a number of units and groups.
-fn accepted(topic: &mut Topic, read: Read, text: &[u8], units: usize, groups: usize) {
+pub fn accepted(topic: &mut Topic, read: Read, text: &[u8], units: usize, groups: usize) {
     let (answer, table) = attempt(read, text, 256);
     topic.same(&Shown(text), "counts", answer, Ok(Counts { units, groups }));
     topic.same(&Shown(text), "entries past the units", &table[units..], &filler_table(256)[units..]);

@@ -51,7 +51,7 @@ fn settled(settle: Settle, text: &[u8], lent: &[Range]) -> (Result<u64, Unsettle
 }
 
 /// Reports on a copy of a table: the answer, the table and the report's text.
-fn reported(planner: OnTexts, text: &[u8], lent: &[Range]) -> (Result<Reported, Unsettled>, Vec<Range>, String) {
+pub fn reported(planner: OnTexts, text: &[u8], lent: &[Range]) -> (Result<Reported, Unsettled>, Vec<Range>, String) {
     let (mut table, mut buffer) = (lent.to_vec(), vec![b'~'; MOST_BYTES]);
     let answer = (planner.report)(text, &mut table, &mut fillers(SCRATCH_PER_UNIT * lent.len()), &mut buffer);
     let length = answer.map_or(0, |reported| reported.length);
@@ -59,14 +59,14 @@ fn reported(planner: OnTexts, text: &[u8], lent: &[Range]) -> (Result<Reported, 
 }
 
 /// What is written of a job with a table.
-fn written(planner: OnTexts, text: &[u8], table: &[Range]) -> Result<String, Refusal> {
+pub fn written(planner: OnTexts, text: &[u8], table: &[Range]) -> Result<String, Refusal> {
     let mut buffer = vec![0; WRITTEN_BYTES];
     let length = (planner.write)(text, table, &mut buffer)?;
     Ok(String::from_utf8_lossy(&buffer[..length]).into())
 }
 
 /// Reads a text, and reports on the table that this fills: the report, or the refusal.
-fn whole(planner: OnTexts, text: &str) -> Result<String, Refusal> {
+pub fn whole(planner: OnTexts, text: &str) -> Result<String, Refusal> {
     let mut table = vec![Range { low: 7, high: 7 }; 256];
     let counts = (planner.read)(text.as_bytes(), &mut table)?;
     let (answer, _, report) = reported(planner, text.as_bytes(), &table[..counts.units]);
