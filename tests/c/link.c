@@ -34,6 +34,15 @@ static int known_share(void) {
     return faults + same("plan after a refusal", plan[0], 8);
 }
 
+/* The lows and highs of four members. */
+static int same_ranges(const uint64_t *lows, const uint64_t *highs, const uint64_t *left) {
+    int faults = 0;
+    for (int i = 0; i < 4; i++) {
+        faults += same("low", lows[i], left[i]) + same("high", highs[i], left[4 + i]);
+    }
+    return faults;
+}
+
 /* The same group under deviation limit 28 leaves [8,8] [4,5] [3,5] [3,4]. */
 static int known_ranges(void) {
     uint64_t lows[4] = {8, 4, 1, 3};
@@ -43,9 +52,7 @@ static int known_ranges(void) {
     danivomel_limits limits = {.deviation = {.any = false, .at_most = 28}, .spread = {.any = true}, .pairs = {.any = true}};
     danivomel_refusal found = danivomel_narrow(lows, 4, highs, 4, marks, 4, 20, limits);
     int faults = same("refusal", found.number, DANIVOMEL_DONE) + same("place", found.place, 0);
-    for (int i = 0; i < 4; i++) {
-        faults += same("low", lows[i], left[i]) + same("high", highs[i], left[4 + i]);
-    }
+    faults += same_ranges(lows, highs, left);
     limits.deviation.at_most = 23;
     found = danivomel_narrow(lows, 4, highs, 4, marks, 4, 20, limits);
     return faults + same("refusal", found.number, DANIVOMEL_NONE_WITHIN_LIMITS);
@@ -62,22 +69,17 @@ static int known_pairs(void) {
     uint64_t highs[4] = {10, 7, 5, 4};
     const uint64_t marks[4] = {0, 0, 0, 0};
     const uint64_t left[8] = {8, 4, 3, 3, 8, 5, 5, 4};
-    const uint64_t only[4] = {8, 4, 4, 4};
+    const uint64_t only[8] = {8, 4, 4, 4, 8, 4, 4, 4};
     danivomel_limits limits = {.deviation = {.any = true}, .spread = {.any = true}, .pairs = {.any = false, .at_most = 16}};
     int faults = refused_at(danivomel_narrow(lows, 4, highs, 4, marks, 4, 20, limits), DANIVOMEL_DONE, 0);
-    for (int i = 0; i < 4; i++) {
-        faults += same("low", lows[i], left[i]) + same("high", highs[i], left[4 + i]);
-    }
+    faults += same_ranges(lows, highs, left);
     limits.pairs.at_most = 11;
     faults += refused_at(danivomel_narrow(lows, 4, highs, 4, marks, 4, 20, limits), DANIVOMEL_NONE_WITHIN_LIMITS, 0);
     limits.pairs.at_most = 100000000001;
     faults += refused_at(danivomel_narrow(lows, 4, highs, 4, marks, 4, 20, limits), DANIVOMEL_BEYOND_RANGE, 0);
     limits.pairs.at_most = 15;
     faults += refused_at(danivomel_narrow(lows, 4, highs, 4, marks, 4, 20, limits), DANIVOMEL_DONE, 0);
-    for (int i = 0; i < 4; i++) {
-        faults += same("low", lows[i], only[i]) + same("high", highs[i], only[i]);
-    }
-    return faults;
+    return faults + same_ranges(lows, highs, only);
 }
 
 /* The same group with a shut member at its second place gives the same figures, and 0 for that member. */
