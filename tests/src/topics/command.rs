@@ -127,7 +127,10 @@ fn words_of(name: &str, case: &GroupCase) -> Vec<String> {
     if name == "narrow" {
         words.push(format!("--dev={}", limit(case.limits.deviation)));
         words.extend(["--spread".to_string(), limit(case.limits.spread)]);
-        words.push(format!("--pairs={}", limit(case.limits.pairs)));
+        // without the option the limit is any
+        if case.limits.pairs != Limit::Any || case.total % 2 == 0 {
+            words.push(format!("--pairs={}", limit(case.limits.pairs)));
+        }
     }
     let members = case.ranges().into_iter().zip(&case.marks);
     words.extend(
@@ -203,7 +206,7 @@ fn visible(topic: &mut Topic) {
 
 /// Wrong words: nothing is printed but what is wrong, and the status is 2.
 fn wrong_words(topic: &mut Topic) {
-    let wrong: [&[&str]; 17] = [
+    let wrong: [&[&str]; 19] = [
         &[],
         &["plan"],
         &["Settle"],
@@ -214,12 +217,14 @@ fn wrong_words(topic: &mut Topic) {
         &["level", "--total", "20"],
         &["level", "8..10"],
         &["level", "--total", "20", "--dev", "4", "8..10"],
+        &["level", "--total", "20", "--pairs", "4", "8..10"],
         &["level", "--total", "20", "--total", "20", "8..10"],
         &["level", "--total", "12,000", "8..10"],
         &["level", "--total", "20", "8-10"],
         &["level", "--total", "20", "8..ten"],
         &["narrow", "--total", "20", "--dev", "-4", "8..10"],
         &["narrow", "--total", "20", "--spread", "", "8..10"],
+        &["narrow", "--total", "20", "--pairs", "four", "8..10"],
         &["narrow", "--total", "20", "..10"],
     ];
     for words in wrong {
