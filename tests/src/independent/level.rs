@@ -128,15 +128,16 @@ pub fn deviation_part(n: u64, share: u64, total: u64) -> u64 {
 pub fn figures(shares: &[u64], marks: &[u64], total: u64) -> (Deviation, Spread, Pairs) {
     let n = count_running(marks);
     let (mut deviation, mut squares) = (0, 0);
-    let mut running = Vec::with_capacity(n as usize);
+    let (mut running, mut count) = ([0; MOST_UNITS], 0);
     for (&share, &mark) in shares.iter().zip(marks) {
         if mark == RUNNING {
             deviation += deviation_part(n, share, total);
             squares += share * share;
-            running.push(share);
+            running[count] = share;
+            count += 1;
         }
     }
-    (Deviation(deviation), Spread(n * squares - total * total), pairs_of(&mut running))
+    (Deviation(deviation), Spread(n * squares - total * total), pairs_of(&mut running[..count]))
 }
 
 /// The pair differences of running members' shares, which it sorts: each share is then the larger one in its pairs with
