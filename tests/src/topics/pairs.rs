@@ -12,6 +12,7 @@ use crate::cases::jobs::{print_job, sound, MIDDLE, TINY};
 use crate::check::{Checks, Topic};
 use crate::enumerate::{running, Range};
 use crate::independent::{GREATEST_PAIRS, MOST_UNITS};
+use crate::random::Random;
 use danivomel::{Levelled, Limit, Limits, Refusal};
 use Limit::{Any, AtMost};
 
@@ -96,15 +97,16 @@ fn each_alone(deviation: u64, spread: u64, pairs: u64) -> [Limits; 3] {
     ]
 }
 
+/// A group with two running members.
+fn two_running(random: &mut Random) -> GroupCase {
+    let mut cases = std::iter::repeat_with(|| large(random, 4));
+    cases.find(|case| case.running().lows.len() == 2).expect("such groups come often")
+}
+
 /// Two running members that are d apart have deviation 2 × d, spread d × d and pairs d: each limit says the same.
 fn two_members(topic: &mut Topic, narrow: Narrow) {
     for _ in 0..3_000 {
-        let case = loop {
-            let case = large(&mut topic.random, 4);
-            if case.running().lows.len() == 2 {
-                break case;
-            }
-        };
+        let case = two_running(&mut topic.random);
         let apart = match topic.random.between(0, 2) {
             0 => topic.random.between(0, 3),
             1 => topic.random.between(0, 2_000),
@@ -117,7 +119,7 @@ fn two_members(topic: &mut Topic, narrow: Narrow) {
     }
 }
 
-/// What may stand between the spread's limit and the members' bracket, brackets and all, where a pairs limit does.
+/// What may stand between the spread's bracket and the members': a space alone, or a pairs limit between two.
 const SOUND: [&str; 5] = [" ", " (pairs any) ", " (pairs 0) ", " (pairs 5) ", " (pairs 100000000000) "];
 
 /// What may not, and its refusal.
