@@ -9,9 +9,10 @@ ghost use lib.Dec.{ltb};
 ghost use lib.ListN.{length, take};
 ghost use Rattle.model.specs.Shares.{pick};
 ghost use Rattle.model.specs.Sound.{SoundRanges};
+ghost use Rattle.model.specs.Inner.Orders.{Ordered};
 ghost use Rattle.probe.specs.Inner.Kept.{Kept};
 ghost use Rattle.probe.specs.Inner.Tables.{Breakpoints};
-ghost use Rattle.probe.specs.Inner.Steps.{Risen};
+ghost use Rattle.probe.specs.Inner.Steps.{Risen, Passed};
 
 // 1 for a range of several values, 0 for one of a single value.
 fn one_if_several(low: u64, high: u64) -> usize
@@ -48,8 +49,9 @@ fn gather(lows: &[u64], highs: &[u64], starts: &mut [u64], stops: &mut [u64]) ->
 fn fill(lows: &[u64], highs: &[u64], starts: &[u64], stops: &[u64], table: &mut [u64])
     requires { ⌜ SoundRanges (now lows) (now highs) ⌝ }
     requires { ⌜ Risen (now lows) (now highs) (now starts) (now stops) ⌝ }
-    requires { ⌜ length (now table) ≡ 5 * (2 * length (now starts)) + 5 ⌝ }
+    requires { ⌜ length (now table) ≡ 7 * (2 * length (now starts)) + 7 ⌝ }
     ensures { λ _. ⌜ Breakpoints (now (lows .entry)) (now (highs .entry)) (now (table .exit)) ⌝ }
+    ensures { λ _. ⌜ Passed (now (starts .entry)) (now (table .exit)) ⌝ }
 {
     let last = 2 * starts.len();
     let mut row = first_row(lows, highs);
@@ -66,8 +68,10 @@ fn fill(lows: &[u64], highs: &[u64], starts: &[u64], stops: &[u64], table: &mut 
 fn build_on(lows: &[u64], highs: &[u64], starts: &mut [u64], stops: &mut [u64], table: &mut [u64])
     requires { ⌜ SoundRanges (now lows) (now highs) ⌝ }
     requires { ⌜ Kept (now lows) (now highs) (now starts) (now stops) ⌝ }
-    requires { ⌜ length (now table) ≡ 5 * (2 * length (now starts)) + 5 ⌝ }
+    requires { ⌜ length (now table) ≡ 7 * (2 * length (now starts)) + 7 ⌝ }
+    ensures { λ _. ⌜ Ordered (length (now (starts .entry))) (now (starts .entry)) (now (starts .exit)) ⌝ }
     ensures { λ _. ⌜ Breakpoints (now (lows .entry)) (now (highs .entry)) (now (table .exit)) ⌝ }
+    ensures { λ _. ⌜ Passed (now (starts .exit)) (now (table .exit)) ⌝ }
 {
     sort(starts);
     sort(stops);
@@ -85,12 +89,12 @@ pub fn build(
     requires { ⌜ SoundRanges (now lows) (now highs) ⌝ }
     requires { ⌜ length (now starts) ≡ length (now lows) ⌝ }
     requires { ⌜ length (now stops) ≡ length (now lows) ⌝ }
-    requires { ⌜ 5 * (2 * length (now lows)) + 5 ≤ length (now table) ⌝ }
+    requires { ⌜ 7 * (2 * length (now lows)) + 7 ≤ length (now table) ⌝ }
     ensures { λ r. ⌜ r ≤ length (now (table .exit)) ⌝ }
     ensures { λ r. ⌜ Breakpoints (now (lows .entry)) (now (highs .entry)) (take r (now (table .exit))) ⌝ }
 {
     let count = gather(lows, highs, starts, stops);
-    let size = 10 * count + 5;
+    let size = 14 * count + 7;
     build_on(
         lows,
         highs,

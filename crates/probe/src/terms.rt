@@ -58,7 +58,7 @@ fn squares_of(limit: Limit, count: u64, total: u64) -> u64
 // The terms of a group's turn.
 pub fn terms_of(lows: &[u64], highs: &[u64], table: &[u64], question: Question) -> Terms
     requires { ⌜ SoundWithTotal (now lows) (now highs) (question .total) ⌝ }
-    requires { ⌜ 5 ≤ length (now table) ⌝ }
+    requires { ⌜ 7 ≤ length (now table) ⌝ }
     ensures { λ r. ⌜ Termed (now (lows .entry)) (now (highs .entry)) (now (table .entry)) (question .total) (question .limits) r ⌝ }
 {
     let count = lows.len() as u64;

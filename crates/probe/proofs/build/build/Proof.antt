@@ -31,7 +31,7 @@ module _ (c : tie.After-gather) where
   for-stops : count ≤ length (c .gather .last .1 .1 .1 .0)
   for-stops = omega (arith, c .gather .ensures .0, c .gather .kept .1 .1 .1 .0, start .pre .1 .1 .0)
 
-  for-table : 10 * count + 5 ≤ length (start .args .table .now)
+  for-table : 14 * count + 7 ≤ length (start .args .table .now)
   for-table = omega (arith, c .gather .ensures .0, start .pre .1 .1 .1)
 
 slice-relend-prefix-build-on : tie.Need-slice-relend-prefix-build-on
@@ -58,7 +58,7 @@ build-on-requires c κs =
       start g .pre .0,
       (
         g .gather .ensures .1,
-        omega (arith, length-take-le (count g) (g .gather .last .1 .1 .0) (for-starts g), length-take-le (10 * count g + 5) (start g .args .table .now) (for-table g)),
+        omega (arith, length-take-le (count g) (g .gather .last .1 .1 .0) (for-starts g), length-take-le (14 * count g + 7) (start g .args .table .now) (for-table g)),
       ),
     )
 
@@ -76,8 +76,8 @@ returns c =
     let call = c .before .before .before .before .before .before in
     let g = call .before .before .before .before .before .before .before .before in
     let size = call .build-on .kept .1 .1 .1 .1 .0 in (
-      omega (arith, for-table g, length-front (start g .args .table .now) (call .build-on .last .1 .1 .1 .1 .0) (10 * count g + 5) size),
-      rw (take-at _ _ _ (size ∙ length-take-le _ _ (for-table g))) (call .build-on .ensures),
+      omega (arith, for-table g, length-front (start g .args .table .now) (call .build-on .last .1 .1 .1 .1 .0) (14 * count g + 7) size),
+      rw (take-at _ _ _ (size ∙ length-take-le _ _ (for-table g))) (call .build-on .ensures .1 .0),
     )
 
 pub build-spec : {M : Type 1} → statement M
