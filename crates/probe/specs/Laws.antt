@@ -5,6 +5,7 @@ pub mod Figures
 pub mod Fills
 pub mod Kept
 pub mod PairRows
+pub mod PairFills
 pub mod Moved
 pub mod Pinned
 pub mod PinnedPairs
