@@ -2,15 +2,20 @@
 use crate::distances::Distances;
 use crate::distances::distances_on;
 use crate::distances::far_from;
+use crate::distances::row_of;
+use crate::newton::turns;
 use crate::pinned::Trial;
 use crate::rows::read_row;
+use crate::sides::past;
+use crate::terms::MOST_PAIRS;
 use crate::terms::Terms;
 use model::levels::clamp;
+use model::levels::growth;
 use model::numbers::apart;
 ghost use mathlib.Core.Path.{_≡_};
 ghost use Prim.Native.Nat.{_≤_};
 ghost use Rattle.model.specs.Shares.{greatestShare};
-ghost use Rattle.probe.specs.Inner.Distances.{DistancesAt, PairLookable};
+ghost use Rattle.probe.specs.Inner.Distances.{DistancesAt, MarksKept, PairLookable};
 ghost use Rattle.probe.specs.Inner.Pairs.{aboveLevel, WithValue, WithOver, OverGiven, Spotted, PinnedPairs};
 ghost use Rattle.probe.specs.Inner.Verdicts.{Asked};
 
@@ -70,4 +75,39 @@ pub fn pinned_pairs(lows: &[u64], highs: &[u64], table: &[u64], terms: Terms, tr
     }
     let row = read_row(table, spot.row);
     with_over(terms.count, row.lows, trial, spot, pairs)
+}
+
+// 1 for a high above a value and at or below the level, else 0.
+fn one_if_between(value: u64, high: u64, level: u64) -> u64 {
+    if high <= value {
+        return 0;
+    }
+    if level < high {
+        return 0;
+    }
+    1
+}
+
+// How far inward of a value whose pairs are over by so much the first one within the limit can lie. A value nearer takes 2 off, and 2 more
+// for each other member strictly between it and the member that gets the copy or gives one. Those at their lows or highs stay where they are;
+// those that grow come between one by one, in turns. It is tried there next, so that this matters to the time alone.
+pub fn pair_step(table: &[u64], last: usize, trial: Trial, spot: Spot, much: u64) -> u64
+    requires { ⌜ MarksKept (now table) last ⌝ }
+    requires { ⌜ spot .row ≤ last ⌝ }
+{
+    let row = read_row(table, spot.row);
+    let beside = row_of(table, last, trial.value);
+    let there = read_row(table, beside);
+    let moving = past(row.lows, row.highs);
+    let growing = clamp(1, 256, past(moving, growth(trial.low, trial.high, row.mark)));
+    let over = clamp(0, growing, spot.over);
+    let most = clamp(0, MOST_PAIRS, much);
+    if spot.level < trial.value {
+        let passed = past(there.lows, row.lows);
+        let between = clamp(0, 256, past(passed, one_if_above(spot.level, trial.low)));
+        return turns(2 * between + 1, growing, over, most);
+    }
+    let passed = past(row.highs, there.highs);
+    let between = clamp(0, 256, past(passed, one_if_between(trial.value, trial.high, spot.level)));
+    turns(2 * between + 1, growing, (growing - over) % growing, most)
 }
