@@ -13,7 +13,7 @@ static int same(const char *what, uint64_t found, uint64_t expected) {
     return 1;
 }
 
-/* [8,10] [4,7] [1,5] [3,4] with total 20 gives 8 4 4 4, deviation 24, spread 48. */
+/* [8,10] [4,7] [1,5] [3,4] with total 20 gives 8 4 4 4, deviation 24, spread 48, pairs 12. */
 static int known_share(void) {
     const uint64_t lows[4] = {8, 4, 1, 3};
     const uint64_t highs[4] = {10, 7, 5, 4};
@@ -24,12 +24,23 @@ static int known_share(void) {
     int faults = same("refusal", found.refusal.number, DANIVOMEL_DONE) + same("place", found.refusal.place, 0);
     faults += same("level", found.level, 4);
     faults += same("deviation", found.deviation.value, 24) + same("spread", found.spread.value, 48);
+    faults += same("pairs", found.pairs.value, 12);
     for (int i = 0; i < 5; i++) {
         faults += same("share", plan[i], shares[i]);
     }
     found = danivomel_level(lows, 4, highs, 4, marks, 4, 27, plan, 5);
     faults += same("refusal", found.refusal.number, DANIVOMEL_TOTAL_OUT_OF_REACH);
+    faults += same("pairs after a refusal", found.pairs.value, 0);
     return faults + same("plan after a refusal", plan[0], 8);
+}
+
+/* The lows and highs of four members. */
+static int same_ranges(const uint64_t *lows, const uint64_t *highs, const uint64_t *left) {
+    int faults = 0;
+    for (int i = 0; i < 4; i++) {
+        faults += same("low", lows[i], left[i]) + same("high", highs[i], left[4 + i]);
+    }
+    return faults;
 }
 
 /* The same group under deviation limit 28 leaves [8,8] [4,5] [3,5] [3,4]. */
@@ -38,12 +49,10 @@ static int known_ranges(void) {
     uint64_t highs[4] = {10, 7, 5, 4};
     const uint64_t marks[4] = {0, 0, 0, 0};
     const uint64_t left[8] = {8, 4, 3, 3, 8, 5, 5, 4};
-    danivomel_limits limits = {.deviation = {.any = false, .at_most = 28}, .spread = {.any = true}};
+    danivomel_limits limits = {.deviation = {.any = false, .at_most = 28}, .spread = {.any = true}, .pairs = {.any = true}};
     danivomel_refusal found = danivomel_narrow(lows, 4, highs, 4, marks, 4, 20, limits);
     int faults = same("refusal", found.number, DANIVOMEL_DONE) + same("place", found.place, 0);
-    for (int i = 0; i < 4; i++) {
-        faults += same("low", lows[i], left[i]) + same("high", highs[i], left[4 + i]);
-    }
+    faults += same_ranges(lows, highs, left);
     limits.deviation.at_most = 23;
     found = danivomel_narrow(lows, 4, highs, 4, marks, 4, 20, limits);
     return faults + same("refusal", found.number, DANIVOMEL_NONE_WITHIN_LIMITS);
@@ -52,6 +61,25 @@ static int known_ranges(void) {
 /* A refusal's number and place. */
 static int refused_at(danivomel_refusal found, uint64_t number, uint64_t place) {
     return same("refusal", found.number, number) + same("place", found.place, place);
+}
+
+/* The same group under pairs limits: 16 leaves [8,8] [4,5] [3,5] [3,4], 15 leaves 8 4 4 4 alone, which 11 refuses. */
+static int known_pairs(void) {
+    uint64_t lows[4] = {8, 4, 1, 3};
+    uint64_t highs[4] = {10, 7, 5, 4};
+    const uint64_t marks[4] = {0, 0, 0, 0};
+    const uint64_t left[8] = {8, 4, 3, 3, 8, 5, 5, 4};
+    const uint64_t only[8] = {8, 4, 4, 4, 8, 4, 4, 4};
+    danivomel_limits limits = {.deviation = {.any = true}, .spread = {.any = true}, .pairs = {.any = false, .at_most = 16}};
+    int faults = refused_at(danivomel_narrow(lows, 4, highs, 4, marks, 4, 20, limits), DANIVOMEL_DONE, 0);
+    faults += same_ranges(lows, highs, left);
+    limits.pairs.at_most = 11;
+    faults += refused_at(danivomel_narrow(lows, 4, highs, 4, marks, 4, 20, limits), DANIVOMEL_NONE_WITHIN_LIMITS, 0);
+    limits.pairs.at_most = 100000000001;
+    faults += refused_at(danivomel_narrow(lows, 4, highs, 4, marks, 4, 20, limits), DANIVOMEL_BEYOND_RANGE, 0);
+    limits.pairs.at_most = 15;
+    faults += refused_at(danivomel_narrow(lows, 4, highs, 4, marks, 4, 20, limits), DANIVOMEL_DONE, 0);
+    return faults + same_ranges(lows, highs, only);
 }
 
 /* The same group with a shut member at its second place gives the same figures, and 0 for that member. */
@@ -64,6 +92,7 @@ static int shut_share(void) {
     danivomel_levelled found = danivomel_level(lows, 5, highs, 5, marks, 5, 20, plan, 5);
     int faults = refused_at(found.refusal, DANIVOMEL_DONE, 0) + same("level", found.level, 4);
     faults += same("deviation", found.deviation.value, 24) + same("spread", found.spread.value, 48);
+    faults += same("pairs", found.pairs.value, 12);
     for (int i = 0; i < 5; i++) {
         faults += same("share", plan[i], shares[i]);
     }
@@ -76,7 +105,7 @@ static int shut_ranges(void) {
     uint64_t highs[5] = {10, 0, 7, 5, 4};
     uint64_t marks[6] = {0, 1, 0, 0, 0, 0};
     const uint64_t left[10] = {8, 0, 4, 3, 3, 8, 0, 5, 5, 4};
-    danivomel_limits limits = {.deviation = {.any = false, .at_most = 28}, .spread = {.any = true}};
+    danivomel_limits limits = {.deviation = {.any = false, .at_most = 28}, .spread = {.any = true}, .pairs = {.any = true}};
     int faults = refused_at(danivomel_narrow(lows, 5, highs, 5, marks, 5, 20, limits), DANIVOMEL_DONE, 0);
     for (int i = 0; i < 5; i++) {
         faults += same("low", lows[i], left[i]) + same("high", highs[i], left[5 + i]);
@@ -107,7 +136,7 @@ static const char *const text_settled = "(unit 5 6)\n(unit 4 5)\n(unit 3 4)\n" W
 static int known_job(void) {
     static uint8_t buffer[65536];
     const char *report = "(settled 3)\n(unit 1 5 6)\n(unit 2 4 5)\n(unit 3 3 4)\n"
-                         "(group 1 5 0 0 (plan 5 5))\n(group 2 4 0 0 (plan 4 4))\n";
+                         "(group 1 5 0 0 0 (plan 5 5))\n(group 2 4 0 0 0 (plan 4 4))\n";
     const danivomel_range spare = {99, 98};
     const danivomel_range read[4] = {{0, 10}, {0, 10}, {0, 10}, {99, 98}};
     const danivomel_range settled[4] = {{5, 6}, {4, 5}, {3, 4}, {99, 98}};
@@ -170,7 +199,7 @@ static int refused_texts(void) {
 }
 
 int main(void) {
-    int faults = known_share() + known_ranges() + shut_share() + shut_ranges();
+    int faults = known_share() + known_ranges() + known_pairs() + shut_share() + shut_ranges();
     faults += known_job() + known_text() + refused_texts();
     printf("c: %s\n", faults == 0 ? "linked, known answers hold" : "FAILED");
     return faults != 0;

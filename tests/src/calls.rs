@@ -1,6 +1,6 @@
 //! The calls that a planner has, as topics take them, and what the tests need over their types.
 
-use danivomel::{Counts, Deviation, Levelled, Limit, Limits, Range, Refusal, Reported, Spread, Unsettled};
+use danivomel::{Counts, Deviation, Levelled, Limit, Limits, Pairs, Range, Refusal, Reported, Spread, Unsettled};
 
 /// Levels one group: lows, highs, marks, total, and the list that the shares are written to.
 pub type Level = fn(&[u64], &[u64], &[u64], u64, &mut [u64]) -> Result<Levelled, Refusal>;
@@ -29,9 +29,9 @@ pub struct OnTexts {
     pub write: Write,
 }
 
-/// Whether both figures are within the limits.
-pub fn met(limits: Limits, deviation: Deviation, spread: Spread) -> bool {
-    allows(limits.deviation, deviation.0) && allows(limits.spread, spread.0)
+/// Whether the three figures are within the limits.
+pub fn met(limits: Limits, deviation: Deviation, spread: Spread, pairs: Pairs) -> bool {
+    allows(limits.deviation, deviation.0) && allows(limits.spread, spread.0) && allows(limits.pairs, pairs.0)
 }
 
 /// Whether a limit allows a figure.

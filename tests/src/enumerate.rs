@@ -4,7 +4,7 @@
 use crate::calls::met;
 use crate::independent::reader::{Group, Job};
 use crate::independent::{GREATEST_SHARE, RUNNING};
-use danivomel::{Deviation, Limits, Spread};
+use danivomel::{Deviation, Limits, Pairs, Spread};
 
 /// A range: low and high.
 pub type Range = (u64, u64);
@@ -50,17 +50,25 @@ pub fn spread(shares: &[u64], total: u64) -> Spread {
     Spread(u64::try_from(n * squares - total as i128 * total as i128).expect("a spread is not negative"))
 }
 
+/// The pair differences of running members' shares: larger less smaller share, over all pairs, each pair once.
+pub fn pairs(shares: &[u64]) -> Pairs {
+    let with_those_before = |second: usize| -> u64 {
+        shares[..second].iter().map(|first| first.max(&shares[second]) - first.min(&shares[second])).sum()
+    };
+    Pairs((0..shares.len()).map(with_those_before).sum())
+}
+
 /// The total above t of running members' shares: the sum of share − t over those above t.
 pub fn above(shares: &[u64], t: u64) -> u64 {
     shares.iter().filter(|&&share| share > t).map(|&share| share - t).sum()
 }
 
-/// All plans: the share lists whose running members are within both limits.
+/// All plans: the share lists whose running members are within the three limits.
 pub fn plans(ranges: &[Range], marks: &[u64], total: u64, limits: Limits) -> Vec<Vec<u64>> {
     let mut lists = share_lists(ranges, total);
     lists.retain(|list| {
         let shares = running(list, marks);
-        met(limits, deviation(&shares, total), spread(&shares, total))
+        met(limits, deviation(&shares, total), spread(&shares, total), pairs(&shares))
     });
     lists
 }

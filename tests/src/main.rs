@@ -55,6 +55,7 @@ fn independent_planner(checks: &mut Checks) {
     topics::narrow::run(checks, who, independent::narrow);
     topics::lists::run_narrow(checks, who, independent::narrow);
     topics::marks::run(checks, who, independent::level, independent::narrow);
+    topics::pairs::run_lists(checks, who, independent::level, independent::narrow);
     topics::judge::run(checks);
     topics::read::run(checks, who, independent::read);
     topics::lines::run(checks, who, independent::read);
@@ -75,6 +76,7 @@ fn independent_planner(checks: &mut Checks) {
     };
     topics::handed::run(checks, who, planner);
     topics::shut::run(checks, who, planner);
+    topics::pairs::run_texts(checks, who, planner);
 }
 
 /// The proved planner against brute force and against the independent planner.
@@ -87,6 +89,7 @@ fn proved_planner(checks: &mut Checks) {
     topics::narrow::compare(checks, who, danivomel::narrow);
     topics::lists::run_narrow(checks, who, danivomel::narrow);
     topics::marks::run(checks, who, danivomel::level, danivomel::narrow);
+    topics::pairs::run_lists(checks, who, danivomel::level, danivomel::narrow);
     topics::read::run(checks, who, danivomel::read);
     topics::read::compare(checks, who, danivomel::read);
     topics::lines::run(checks, who, danivomel::read);
@@ -111,4 +114,5 @@ fn proved_planner(checks: &mut Checks) {
     topics::handed::run(checks, who, planner);
     topics::shut::run(checks, who, planner);
     topics::shut::compare(checks, who, planner);
+    topics::pairs::run_texts(checks, who, planner);
 }

@@ -129,8 +129,13 @@ fn line_faults(state: &mut State, line: &[u8]) -> Option<Vec<u64>> {
     match words[..] {
         ["unit", low, high] => unit_faults(state, line, low, high),
         ["shut"] => shut_faults(state, line),
+        ["group", total, "dev", dev, "spread", spread, "pairs", pairs, "of", ref members @ ..] => {
+            group_faults(state, line, [total, dev, spread, pairs], members)
+        }
         ["group", total, "dev", dev, "spread", spread, "of", ref members @ ..] => {
-            group_faults(state, line, [total, dev, spread], members)
+            // the line again with the limit that it has without saying so
+            let line = line.replacen(") (of ", ") (pairs any) (of ", 1);
+            group_faults(state, &line, [total, dev, spread, "any"], members)
         }
         _ => None,
     }
@@ -161,15 +166,14 @@ fn shut_faults(state: &mut State, line: &str) -> Option<Vec<u64>> {
     Some(present(&[(5, state.groups > 0), (6, state.units > 256)]))
 }
 
-/// All refusals of a group line, whose amounts are its total and its two limits.
-fn group_faults(state: &mut State, line: &str, amounts: [&str; 3], members: &[&str]) -> Option<Vec<u64>> {
-    let [total, dev, spread] = amounts;
+/// All refusals of a group line, whose amounts are its total and its three limits.
+fn group_faults(state: &mut State, line: &str, amounts: [&str; 4], members: &[&str]) -> Option<Vec<u64>> {
+    let [total, dev, spread, pairs] = amounts;
     let limit = |word: &str| if word == "any" { digits("0") } else { digits(word) };
-    let (total, most_dev, most_spread) = (digits(total)?, limit(dev)?, limit(spread)?);
+    let (total, most_dev, most_spread, most_pairs) = (digits(total)?, limit(dev)?, limit(spread)?, limit(pairs)?);
     let numbers = members.iter().map(|word| digits(word)).collect::<Option<Vec<Digits>>>()?;
-    if members.is_empty()
-        || line != format!("(group {} (dev {dev}) (spread {spread}) (of {}))", total.1, members.join(" "))
-    {
+    let (limits, of) = (format!("(dev {dev}) (spread {spread}) (pairs {pairs})"), members.join(" "));
+    if members.is_empty() || line != format!("(group {} {limits} (of {of}))", total.1) {
         return None;
     }
     state.groups += 1;
@@ -180,6 +184,7 @@ fn group_faults(state: &mut State, line: &str, amounts: [&str; 3], members: &[&s
     let faults = [
         (4, beyond(&total, 256_000_000)),
         (4, beyond(&most_dev, 100_000_000_000) || beyond(&most_spread, 100_000_000_000_000_000)),
+        (4, beyond(&most_pairs, 100_000_000_000)),
         (6, state.groups > 64 || state.memberships > 4_096),
         (8, numbers.iter().any(|number| number.1 == "0" || beyond(number, state.units))),
         (9, different.len() < numbers.len()),

@@ -11,6 +11,12 @@ pub struct Deviation(pub u64);
 #[derive(Clone, Copy, Debug, PartialEq, Eq, PartialOrd, Ord)]
 pub struct Spread(pub u64);
 
+/// The pair differences of running members' shares: the sum of larger less smaller share over all pairs of them, each pair
+/// once. It is 0 where no member runs.
+#[repr(C)]
+#[derive(Clone, Copy, Debug, PartialEq, Eq, PartialOrd, Ord)]
+pub struct Pairs(pub u64);
+
 /// A limit of a figure. It lies in memory as the header has it, the mark `any` and then the number, and crosses as it is.
 #[repr(u8)]
 #[derive(Clone, Copy, Debug, PartialEq, Eq)]
@@ -21,7 +27,7 @@ pub enum Limit {
     Any = 1,
 }
 
-/// The two limits of a group.
+/// The three limits of a group.
 #[repr(C)]
 #[derive(Clone, Copy, Debug, PartialEq, Eq)]
 pub struct Limits {
@@ -29,11 +35,13 @@ pub struct Limits {
     pub deviation: Limit,
     /// The spread's limit, a number from 0 to 100,000,000,000,000,000.
     pub spread: Limit,
+    /// The pair differences' limit, a number from 0 to 100,000,000,000.
+    pub pairs: Limit,
 }
 
 impl Limits {
     /// Limits that allow everything.
-    pub const ANY: Limits = Limits { deviation: Limit::Any, spread: Limit::Any };
+    pub const ANY: Limits = Limits { deviation: Limit::Any, spread: Limit::Any, pairs: Limit::Any };
 }
 
 /// The range of a unit, from 0 to 1,000,000: an entry of a table. Unit 1 is the table's first entry.
@@ -56,6 +64,8 @@ pub struct Levelled {
     pub deviation: Deviation,
     /// The shares' spread, the least that can be had.
     pub spread: Spread,
+    /// The shares' pair differences, the least that can be had.
+    pub pairs: Pairs,
 }
 
 /// What reading a job text answers.

@@ -57,7 +57,7 @@ pub fn level(lows: &[u64], highs: &[u64], marks: &[u64], total: u64, plan: &mut 
         )
     };
     accepted(answer.refusal)?;
-    Ok(Levelled { level: answer.level, deviation: answer.deviation, spread: answer.spread })
+    Ok(Levelled { level: answer.level, deviation: answer.deviation, spread: answer.spread, pairs: answer.pairs })
 }
 
 /// Narrows a group in place: leaves for each member exactly the values that some plan takes, where a plan is a choice

@@ -1,6 +1,6 @@
 //! The functions of libplanner.a and what crosses to them, as include/danivomel.h has it.
 
-use crate::{Deviation, Limits, Range, Refusal, Spread};
+use crate::{Deviation, Limits, Pairs, Range, Refusal, Spread};
 
 /// What levelling answers; here and below a refusal's number 0 says that there is none.
 #[repr(C)]
@@ -9,6 +9,7 @@ pub struct ForeignLevelled {
     pub level: u64,
     pub deviation: Deviation,
     pub spread: Spread,
+    pub pairs: Pairs,
 }
 
 /// What reading answers.

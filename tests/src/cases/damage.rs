@@ -1,5 +1,6 @@
 //! Damages to a job text: bytes deleted, inserted or changed, items doubled, zeros led in, lines moved, cut or joined,
-//! numbers lengthened, brackets added, left out or exchanged, words misspelt, and the last line left without its byte 10.
+//! numbers lengthened, brackets added, left out or exchanged, words misspelt, pairs limits put where they may stand and
+//! where they may not, and the last line left without its byte 10.
 
 use crate::random::Random;
 
@@ -10,7 +11,7 @@ pub fn damage(random: &mut Random, text: &mut Vec<u8>) {
         return;
     }
     let at = random.index(text.len());
-    match random.between(0, 14) {
+    match random.between(0, 15) {
         0 => drop(text.remove(at)),
         1 => text.insert(at, telling_byte(random)),
         2 => text[at] = telling_byte(random),
@@ -25,13 +26,14 @@ pub fn damage(random: &mut Random, text: &mut Vec<u8>) {
         11 => exchange_brackets(random, text),
         12 => misspell(random, text),
         13 => text.truncate(text.len() - usize::from(text.ends_with(b"\n"))),
+        14 => put_pairs(random, text),
         _ => change_number(random, text),
     }
 }
 
 /// A byte of the form, or one next to its kinds.
 fn telling_byte(random: &mut Random) -> u8 {
-    random.one_of(b"() \n0123456789anydevunitgroupspreadofshut/:`{'*!\x1f\t\r\x00\xff-AZ")
+    random.one_of(b"() \n0123456789anydevunitgroupspreadpairsofshut/:`{'*!\x1f\t\r\x00\xff-AZ")
 }
 
 /// Where brackets stand.
@@ -71,6 +73,18 @@ fn misspell(random: &mut Random, text: &mut Vec<u8>) {
     }
 }
 
+/// Puts a pairs limit, sound or not, ahead of an inner bracket or of a line's last one.
+fn put_pairs(random: &mut Random, text: &mut Vec<u8>) {
+    let ahead = |at: &usize| text[*at..].starts_with(b" (") || text[*at..].starts_with(b")\n");
+    let places: Vec<usize> = (0..text.len()).filter(ahead).collect();
+    if places.is_empty() {
+        return;
+    }
+    let limits = [" (pairs any)", " (pairs 5)", " (pairs 100000000001)", " (pairs)", " (pairs  5)", " (pair 5)"];
+    let at = random.one_of(&places);
+    text.splice(at..at, random.one_of(&limits).bytes());
+}
+
 /// Where numbers start.
 fn numbers(text: &[u8]) -> Vec<usize> {
     let digit = |at: usize| text[at].is_ascii_digit();
@@ -104,6 +118,7 @@ fn change_number(random: &mut Random, text: &mut Vec<u8>) {
         1_000_001,
         256_000_000,
         256_000_001,
+        100_000_000_000,
         100_000_000_001,
         100_000_000_000_000_001,
         u64::MAX,

@@ -1,9 +1,11 @@
 //! Random groups: small ones that can be enumerated, and large ones to the edges of every range; half of them with shut
 //! members.
 
-use crate::enumerate::{deviation, running, spread, Range};
+use crate::enumerate::{deviation, pairs, running, spread, Range};
 use crate::independent::level::{each_levelled, figures, has_shares};
-use crate::independent::{GREATEST_DEVIATION, GREATEST_SHARE, GREATEST_SPREAD, MOST_UNITS, RUNNING, SHUT};
+use crate::independent::{
+    GREATEST_DEVIATION, GREATEST_PAIRS, GREATEST_SHARE, GREATEST_SPREAD, MOST_UNITS, RUNNING, SHUT,
+};
 use crate::random::Random;
 use danivomel::{Limit, Limits};
 
@@ -30,9 +32,15 @@ impl GroupCase {
         self
     }
 
-    /// The same group under limits.
+    /// The same group under other limits of deviation and spread.
     pub fn under(mut self, deviation: Limit, spread: Limit) -> GroupCase {
-        self.limits = Limits { deviation, spread };
+        self.limits = Limits { deviation, spread, ..self.limits };
+        self
+    }
+
+    /// The same group under another limit of the pair differences.
+    pub fn under_pairs(mut self, pairs: Limit) -> GroupCase {
+        self.limits.pairs = pairs;
         self
     }
 
@@ -102,16 +110,22 @@ fn near(random: &mut Random, ranges: &[Range]) -> u64 {
     random.between(lows, highs)
 }
 
-/// Limits at, just below or above the figures of one of the group's share lists.
+/// Limits at, just below or above the figures of some of the group's share lists; now and then a pairs limit of 0 or the
+/// greatest there is.
 pub fn limits_near(random: &mut Random, lists: &[Vec<u64>], case: &GroupCase) -> Limits {
     if lists.is_empty() {
-        return Limits { deviation: around(random, 4), spread: around(random, 9) };
+        return Limits { deviation: around(random, 4), spread: around(random, 9), pairs: around(random, 6) };
     }
-    let first = running(&lists[random.index(lists.len())], &case.marks);
-    let second = running(&lists[random.index(lists.len())], &case.marks);
+    let [first, second, third] = [(); 3].map(|()| running(&lists[random.index(lists.len())], &case.marks));
     Limits {
         deviation: around(random, deviation(&first, case.total).0),
         spread: around(random, spread(&second, case.total).0),
+        pairs: match random.between(0, 15) {
+            0..=6 => Limit::Any,
+            7 => Limit::AtMost(0),
+            8 => Limit::AtMost(GREATEST_PAIRS),
+            _ => around(random, pairs(&third).0),
+        },
     }
 }
 
@@ -151,17 +165,25 @@ fn large_range(random: &mut Random, style: u64, centre: u64) -> Range {
     (first.min(second), first.max(second))
 }
 
-/// Limits at, just below, or a little above the least figures of a large group.
+/// Limits at, just below, or a little above the least figures of a large group; now and then a pairs limit of 0, the
+/// greatest there is, or one past it.
 pub fn limits_of(random: &mut Random, case: &GroupCase) -> Limits {
     if !has_shares(&case.lows, &case.highs, case.total) {
-        return Limits { deviation: around(random, 100), spread: around(random, 100) };
+        return Limits { deviation: around(random, 100), spread: around(random, 100), pairs: around(random, 100) };
     }
     let mut shares = [0; MOST_UNITS];
     each_levelled(&case.lows, &case.highs, case.total, |member, share| shares[member] = share);
-    let (least_deviation, least_spread) = figures(&shares[..case.lows.len()], &case.marks, case.total);
+    let (deviation, spread, pairs) = figures(&shares[..case.lows.len()], &case.marks, case.total);
     Limits {
-        deviation: stretched(random, least_deviation.0, GREATEST_DEVIATION),
-        spread: stretched(random, least_spread.0, GREATEST_SPREAD),
+        deviation: stretched(random, deviation.0, GREATEST_DEVIATION),
+        spread: stretched(random, spread.0, GREATEST_SPREAD),
+        pairs: match random.between(0, 31) {
+            0..=13 => Limit::Any,
+            14 => Limit::AtMost(0),
+            15 => Limit::AtMost(GREATEST_PAIRS),
+            16 => Limit::AtMost(GREATEST_PAIRS + 1),
+            _ => stretched(random, pairs.0, GREATEST_PAIRS),
+        },
     }
 }
 

@@ -1,9 +1,9 @@
 //! Random sound jobs, half of them with shut units, and the printer of job texts.
 
 use super::groups::marks;
-use crate::enumerate::{deviation, of_members, running, spread};
+use crate::enumerate::{deviation, of_members, pairs, running, spread};
 use crate::independent::reader::{Group, Job};
-use crate::independent::{GREATEST_DEVIATION, GREATEST_SHARE, GREATEST_SPREAD, SHUT};
+use crate::independent::{GREATEST_DEVIATION, GREATEST_PAIRS, GREATEST_SHARE, GREATEST_SPREAD, SHUT};
 use crate::random::Random;
 use danivomel::{Limit, Limits};
 use std::fmt::Write;
@@ -31,9 +31,11 @@ pub fn print_job(job: &Job) -> Vec<u8> {
         text.push_str(&if mark == SHUT { "(shut)\n".to_string() } else { format!("(unit {low} {high})\n") });
     }
     for group in &job.groups {
-        let (dev, spread) = (limit_word(group.limits.deviation), limit_word(group.limits.spread));
-        let members: Vec<String> = group.members.iter().map(|unit| (unit + 1).to_string()).collect();
-        let _ = writeln!(text, "(group {} (dev {dev}) (spread {spread}) (of {}))", group.total, members.join(" "));
+        let [dev, spread, pairs] = [group.limits.deviation, group.limits.spread, group.limits.pairs].map(limit_word);
+        let pairs = if group.says_pairs { format!("(pairs {pairs}) ") } else { String::new() };
+        let of: Vec<String> = group.members.iter().map(|unit| (unit + 1).to_string()).collect();
+        let of = of.join(" ");
+        let _ = writeln!(text, "(group {} (dev {dev}) (spread {spread}) {pairs}(of {of}))", group.total);
     }
     text.into_bytes()
 }
@@ -75,15 +77,25 @@ fn group_around(random: &mut Random, choice: &[u64], marks: &[u64]) -> Group {
     let mut members: Vec<usize> = (0..choice.len()).collect();
     random.shuffle(&mut members);
     members.truncate(random.between(1, choice.len() as u64) as usize);
-    let mut group = Group { total: 0, limits: Limits::ANY, members };
+    let mut group = Group { total: 0, limits: Limits::ANY, says_pairs: random.once_in(2), members };
     let shares = running(&of_members(&group, choice), &of_members(&group, marks));
     let exact: u64 = shares.iter().sum();
     group.total = if random.once_in(6) { exact + 1 } else { exact };
     group.limits = Limits {
         deviation: limit_over(random, deviation(&shares, exact).0, GREATEST_DEVIATION),
         spread: limit_over(random, spread(&shares, exact).0, GREATEST_SPREAD),
+        pairs: if group.says_pairs { pairs_over(random, pairs(&shares).0) } else { Limit::Any },
     };
     group
+}
+
+/// A pairs limit: now and then 0 or the greatest there is, else as the other limits are.
+fn pairs_over(random: &mut Random, figure: u64) -> Limit {
+    match random.between(0, 31) {
+        0 => Limit::AtMost(0),
+        1 => Limit::AtMost(GREATEST_PAIRS),
+        _ => limit_over(random, figure, GREATEST_PAIRS),
+    }
 }
 
 /// Any, or a limit a little above a figure, now and then below it.

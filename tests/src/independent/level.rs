@@ -1,7 +1,7 @@
 //! Levelling one group: the level, the levelled shares and their figures, and the checks on lists of one group.
 
 use super::{GREATEST_SHARE, GREATEST_TOTAL, MOST_UNITS, RUNNING, SHUT};
-use danivomel::{Deviation, Levelled, Refusal, Spread};
+use danivomel::{Deviation, Levelled, Pairs, Refusal, Spread};
 
 /// Levels a group and writes the shares to the plan; numbers past the members, and on a refusal all, keep their values.
 pub fn level(lows: &[u64], highs: &[u64], marks: &[u64], total: u64, plan: &mut [u64]) -> Result<Levelled, Refusal> {
@@ -16,8 +16,8 @@ pub fn level(lows: &[u64], highs: &[u64], marks: &[u64], total: u64, plan: &mut 
         return Err(Refusal { number: 11, place: 0 });
     }
     let level = each_levelled(lows, highs, total, |member, share| plan[member] = share);
-    let (deviation, spread) = figures(&plan[..lows.len()], marks, total);
-    Ok(Levelled { level, deviation, spread })
+    let (deviation, spread, pairs) = figures(&plan[..lows.len()], marks, total);
+    Ok(Levelled { level, deviation, spread, pairs })
 }
 
 /// Refusal 1: lists empty, of unequal length, or over 256.
@@ -114,7 +114,7 @@ pub fn each_levelled(lows: &[u64], highs: &[u64], total: u64, mut give: impl FnM
     level
 }
 
-/// n of both figures: the number of members not shut.
+/// n of the figures: the number of members not shut.
 pub fn count_running(marks: &[u64]) -> u64 {
     marks.iter().filter(|&&mark| mark == RUNNING).count() as u64
 }
@@ -124,15 +124,30 @@ pub fn deviation_part(n: u64, share: u64, total: u64) -> u64 {
     (n * share).abs_diff(total)
 }
 
-/// The deviation and the spread of shares with the total: n counts the running members, and the sums are theirs alone.
-pub fn figures(shares: &[u64], marks: &[u64], total: u64) -> (Deviation, Spread) {
+/// The three figures of shares with the total: n counts the running members, and the sums are theirs alone.
+pub fn figures(shares: &[u64], marks: &[u64], total: u64) -> (Deviation, Spread, Pairs) {
     let n = count_running(marks);
     let (mut deviation, mut squares) = (0, 0);
+    let (mut running, mut count) = ([0; MOST_UNITS], 0);
     for (&share, &mark) in shares.iter().zip(marks) {
         if mark == RUNNING {
             deviation += deviation_part(n, share, total);
             squares += share * share;
+            running[count] = share;
+            count += 1;
         }
     }
-    (Deviation(deviation), Spread(n * squares - total * total))
+    (Deviation(deviation), Spread(n * squares - total * total), pairs_of(&mut running[..count]))
+}
+
+/// The pair differences of running members' shares, which it sorts: each share is then the larger one in its pairs with
+/// those before it.
+pub fn pairs_of(running: &mut [u64]) -> Pairs {
+    running.sort_unstable();
+    let (mut pairs, mut before) = (0, 0);
+    for (smaller, &share) in running.iter().enumerate() {
+        pairs += smaller as u64 * share - before;
+        before += share;
+    }
+    Pairs(pairs)
 }

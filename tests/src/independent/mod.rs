@@ -24,6 +24,8 @@ pub const GREATEST_TOTAL: u64 = 256_000_000;
 pub const GREATEST_DEVIATION: u64 = 100_000_000_000;
 /// The greatest spread limit.
 pub const GREATEST_SPREAD: u64 = 100_000_000_000_000_000;
+/// The greatest limit of the pair differences.
+pub const GREATEST_PAIRS: u64 = 100_000_000_000;
 /// The mark of a running member.
 pub const RUNNING: u64 = 0;
 /// The mark of a shut member.

@@ -2,8 +2,9 @@
 
 use super::level::{
     check_numbers, check_order, check_shape, check_top, count_running, deviation_part, each_levelled, has_shares,
+    pairs_of,
 };
-use super::{GREATEST_DEVIATION, GREATEST_SPREAD, GREATEST_TOTAL, MOST_UNITS, RUNNING};
+use super::{GREATEST_DEVIATION, GREATEST_PAIRS, GREATEST_SPREAD, GREATEST_TOTAL, MOST_UNITS, RUNNING};
 use crate::calls::met;
 use danivomel::{Deviation, Limit, Limits, Refusal, Spread};
 
@@ -29,6 +30,7 @@ pub fn check_lists(lows: &[u64], highs: &[u64], terms: Terms) -> Result<(), Refu
     check_top(terms.total, GREATEST_TOTAL)?;
     check_limit(terms.limits.deviation, GREATEST_DEVIATION)?;
     check_limit(terms.limits.spread, GREATEST_SPREAD)?;
+    check_limit(terms.limits.pairs, GREATEST_PAIRS)?;
     check_order(lows, highs, terms.marks)
 }
 
@@ -63,13 +65,19 @@ fn limits_met(lows: &[u64], highs: &[u64], terms: Terms) -> bool {
     let n = count_running(marks);
     let mut deviation = 0;
     let mut squares = 0;
+    // the limit any takes every figure, so that the shares need not be sorted for it
+    let asks_pairs = limits.pairs != Limit::Any;
+    let mut running = Vec::with_capacity(if asks_pairs { n as usize } else { 0 });
     each_levelled(lows, highs, total, |member, share| {
         if marks[member] == RUNNING {
             deviation += deviation_part(n, share, total);
             squares += share * share;
+            if asks_pairs {
+                running.push(share);
+            }
         }
     });
-    met(limits, Deviation(deviation), Spread(n * squares - total * total))
+    met(limits, Deviation(deviation), Spread(n * squares - total * total), pairs_of(&mut running))
 }
 
 /// Whether some plan gives the member this value.

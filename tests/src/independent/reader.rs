@@ -2,18 +2,28 @@
 
 use super::ailment::check_line;
 use super::{
-    GREATEST_DEVIATION, GREATEST_SHARE, GREATEST_SPREAD, GREATEST_TOTAL, MOST_BYTES, MOST_GROUPS, MOST_MEMBERSHIPS,
-    MOST_UNITS, RUNNING, SHUT,
+    GREATEST_DEVIATION, GREATEST_PAIRS, GREATEST_SHARE, GREATEST_SPREAD, GREATEST_TOTAL, MOST_BYTES, MOST_GROUPS,
+    MOST_MEMBERSHIPS, MOST_UNITS, RUNNING, SHUT,
 };
 use crate::calls;
 use danivomel::{Counts, Limit, Limits, Range, Refusal};
 
-/// A group of a job; a member is its unit's number less 1.
+/// A group of a job; a member is its unit's number less 1. Its line may say a pairs limit, any too, which it then keeps;
+/// one that says none has the limit any.
 #[derive(Clone, Debug, PartialEq, Eq)]
 pub struct Group {
     pub total: u64,
     pub limits: Limits,
+    pub says_pairs: bool,
     pub members: Vec<usize>,
+}
+
+/// What a group line holds: its unit numbers may be of no unit.
+struct GroupLine {
+    total: u64,
+    limits: Limits,
+    says_pairs: bool,
+    numbers: Vec<u64>,
 }
 
 /// A job: the ranges of its unit lines, 0 to 0 for `(shut)`, with a mark for each, and its groups.
@@ -61,10 +71,10 @@ fn add_line(job: &mut Job, ended: &[u8]) -> Result<(), u64> {
         job.marks.push(mark);
         return Ok(());
     }
-    let (total, limits, numbers) = group_line(line).ok_or(3u64)?;
-    check_group(job, total, limits, &numbers)?;
-    let members = numbers.iter().map(|&number| number as usize - 1).collect();
-    job.groups.push(Group { total, limits, members });
+    let group = group_line(line).ok_or(3u64)?;
+    check_group(job, &group)?;
+    let members = group.numbers.iter().map(|&number| number as usize - 1).collect();
+    job.groups.push(Group { total: group.total, limits: group.limits, says_pairs: group.says_pairs, members });
     Ok(())
 }
 
@@ -84,10 +94,10 @@ fn check_unit(job: &Job, low: u64, high: u64) -> Result<(), u64> {
 }
 
 /// The lowest of 4 to 9 that applies to a group line.
-fn check_group(job: &Job, total: u64, limits: Limits, numbers: &[u64]) -> Result<(), u64> {
+fn check_group(job: &Job, group: &GroupLine) -> Result<(), u64> {
+    let numbers = &group.numbers;
     let memberships = numbers.len() + job.groups.iter().map(|group| group.members.len()).sum::<usize>();
-    if total > GREATEST_TOTAL || beyond(limits.deviation, GREATEST_DEVIATION) || beyond(limits.spread, GREATEST_SPREAD)
-    {
+    if group.total > GREATEST_TOTAL || are_beyond(group.limits) {
         Err(4)
     } else if job.groups.len() == MOST_GROUPS || memberships > MOST_MEMBERSHIPS {
         Err(6)
@@ -100,9 +110,12 @@ fn check_group(job: &Job, total: u64, limits: Limits, numbers: &[u64]) -> Result
     }
 }
 
-/// Whether a limit is a number beyond its range.
-fn beyond(limit: Limit, greatest: u64) -> bool {
-    matches!(limit, Limit::AtMost(most) if most > greatest)
+/// Whether one of the limits is a number beyond its range.
+fn are_beyond(limits: Limits) -> bool {
+    let beyond = |limit: Limit, greatest: u64| matches!(limit, Limit::AtMost(most) if most > greatest);
+    beyond(limits.deviation, GREATEST_DEVIATION)
+        || beyond(limits.spread, GREATEST_SPREAD)
+        || beyond(limits.pairs, GREATEST_PAIRS)
 }
 
 /// The low, the high and the mark of a unit line, where the line is in one of its two forms.
@@ -115,11 +128,12 @@ fn unit_line(line: &[u8]) -> Option<(u64, u64, u64)> {
     (rest == b")").then_some((low, high, RUNNING))
 }
 
-/// The total, the limits and the unit numbers of a group line, where the line is in that form.
-fn group_line(line: &[u8]) -> Option<(u64, Limits, Vec<u64>)> {
+/// What a group line holds, where the line is in that form.
+fn group_line(line: &[u8]) -> Option<GroupLine> {
     let (total, rest) = number(line.strip_prefix(b"(group ")?)?;
     let (deviation, rest) = limit(rest.strip_prefix(b" (dev ")?)?;
     let (spread, rest) = limit(rest.strip_prefix(b") (spread ")?)?;
+    let (pairs, rest) = pairs_limit(rest)?;
     let (first, mut rest) = number(rest.strip_prefix(b") (of ")?)?;
     let mut numbers = vec![first];
     while let Some(more) = rest.strip_prefix(b" ") {
@@ -127,7 +141,16 @@ fn group_line(line: &[u8]) -> Option<(u64, Limits, Vec<u64>)> {
         numbers.push(next);
         rest = after;
     }
-    (rest == b"))").then_some((total, Limits { deviation, spread }, numbers))
+    let limits = Limits { deviation, spread, pairs: pairs.unwrap_or(Limit::Any) };
+    (rest == b"))").then_some(GroupLine { total, limits, says_pairs: pairs.is_some(), numbers })
+}
+
+/// The pairs limit where the bytes behind the spread's go on with one, and what follows.
+fn pairs_limit(bytes: &[u8]) -> Option<(Option<Limit>, &[u8])> {
+    match bytes.strip_prefix(b") (pairs ") {
+        Some(rest) => limit(rest).map(|(pairs, rest)| (Some(pairs), rest)),
+        None => Some((None, bytes)),
+    }
 }
 
 /// A limit and what follows it.

@@ -33,8 +33,8 @@ fn report_lines(job: &Job, passes: u64, table: &[Range]) -> String {
         let marks: Vec<u64> = group.members.iter().map(|&unit| job.marks[unit]).collect();
         let mut plan = vec![0; members.len()];
         let levelled = level(&lows, &highs, &marks, group.total, &mut plan).expect("a settled group has a plan");
-        let (deviation, spread) = (levelled.deviation.0, levelled.spread.0);
-        let _ = write!(lines, "(group {} {} {deviation} {spread} (plan", index + 1, levelled.level);
+        let (deviation, spread, pairs) = (levelled.deviation.0, levelled.spread.0, levelled.pairs.0);
+        let _ = write!(lines, "(group {} {} {deviation} {spread} {pairs} (plan", index + 1, levelled.level);
         for share in plan {
             let _ = write!(lines, " {share}");
         }

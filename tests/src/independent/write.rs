@@ -4,7 +4,7 @@ use super::reader::{read, read_job, Group};
 use super::report::refusal_line;
 use super::settle::{check_ranges, settle};
 use super::{MOST_BYTES, MOST_UNITS, SCRATCH_PER_UNIT, SHUT};
-use danivomel::{Limit, Range, Refusal};
+use danivomel::{Limit, Limits, Range, Refusal};
 use std::fmt::Write;
 
 /// Writes the job of the text with the table's ranges to the start of the buffer; bytes past it, and on a refusal all,
@@ -36,10 +36,12 @@ pub fn written(text: &[u8], table: &[Range], buffer: usize) -> Result<Vec<u8>, R
     Ok(lines.into_bytes())
 }
 
-/// Adds the line of a group.
+/// Adds the line of a group, which says a pairs limit only if its own line did.
 fn add_group(lines: &mut String, group: &Group) {
     let _ = write!(lines, "(group {}", group.total);
-    for (name, limit) in [("dev", group.limits.deviation), ("spread", group.limits.spread)] {
+    let Limits { deviation, spread, pairs } = group.limits;
+    let limits = [("dev", deviation), ("spread", spread), ("pairs", pairs)];
+    for (name, limit) in &limits[..if group.says_pairs { 3 } else { 2 }] {
         let _ = match limit {
             Limit::Any => write!(lines, " ({name} any)"),
             Limit::AtMost(most) => write!(lines, " ({name} {most})"),

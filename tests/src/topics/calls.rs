@@ -40,6 +40,7 @@ pub fn run_settle(checks: &mut Checks, who: &str, settle: Settle) {
         };
         each_bad_text(&sound(), &mut refused);
         each_combination(&sound(), &settle_faults(), &mut refused);
+        each_combination(&sound(), &pairs_faults(), &mut refused);
     });
 }
 
@@ -60,6 +61,7 @@ pub fn run_report(checks: &mut Checks, who: &str, report: Report) {
         };
         each_bad_text(&sound(), &mut refused);
         each_combination(&sound(), &faults, &mut refused);
+        each_combination(&sound(), &pairs_faults(), &mut refused);
     });
 }
 
@@ -113,9 +115,24 @@ fn settle_faults() -> Vec<Fault<Call>> {
     faults.extend(table_faults());
     faults.push(fault(1, 0, |call| call.scratch = 31));
     faults.extend(range_faults());
-    faults.push(fault(11, 1, |call| call.text = call.text.replace("group 21", "group 41")));
-    faults.push(fault(12, 1, |call| call.text = call.text.replace("dev any", "dev 13")));
+    faults.extend(plan_faults());
     faults
+}
+
+/// Faults of each of these kinds, every third one, and a pairs limit that no plan meets.
+fn pairs_faults() -> Vec<Fault<Call>> {
+    let others = text_faults().into_iter().chain(table_faults()).chain(range_faults());
+    let mut faults: Vec<Fault<Call>> = others.step_by(3).chain(plan_faults()).collect();
+    faults.push(fault(12, 1, |call| call.text = call.text.replace(") (of", ") (pairs 6) (of")));
+    faults
+}
+
+/// A total out of reach, and a deviation limit that no plan meets.
+fn plan_faults() -> Vec<Fault<Call>> {
+    vec![
+        fault(11, 1, |call| call.text = call.text.replace("group 21", "group 41")),
+        fault(12, 1, |call| call.text = call.text.replace("dev any", "dev 13")),
+    ]
 }
 
 /// Faults of the text.
@@ -136,7 +153,9 @@ fn bad_texts() -> Vec<(u64, u64, String)> {
         (14, 2, "(unit 0 9)\n(unit 0 9))\n".to_string()),
         (15, 2, "(unit 0 9)\n(units 0 9)\n".to_string()),
         (3, 2, "(unit 0 9)\n(shut 0 0)\n".to_string()),
+        (3, 2, group("1) (pairs 5")),
         (4, 1, "(unit 0 1000001)\n".to_string()),
+        (4, 2, group("1").replace(" (of", " (pairs 100000000001) (of")),
         (5, 3, group("1") + "(unit 0 9)\n"),
         (5, 3, group("1") + "(shut)\n"),
         (6, 257, "(unit 0 9)\n".repeat(257)),

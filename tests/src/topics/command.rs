@@ -94,14 +94,15 @@ fn in_table(topic: &mut Topic, case: &str, table: &[u8], report: &[u8]) {
                 let range = units.lines().find(|line| line.split_whitespace().next() == Some(unit)).unwrap_or_default();
                 range.ends_with(&format!(" {low} to {high}")) || (range.ends_with(" shut") && (low, high) == ("0", "0"))
             }
-            ["group", number, level, deviation, spread, "plan", ..] => {
+            ["group", number, level, deviation, spread, pairs, "plan", ..] => {
                 let group = groups[number.parse::<usize>().expect("a number") - 1];
                 let has = |words: String| group.contains(&words);
                 let shares: Vec<&str> = shares_in(group);
                 has(format!(", level {level}\n"))
                     && has(format!("  deviation {deviation}: "))
                     && has(format!("  spread {spread}: "))
-                    && shares == words[6..]
+                    && has(format!("  pairs {pairs}: "))
+                    && shares == words[7..]
             }
             _ => true,
         };
@@ -126,6 +127,10 @@ fn words_of(name: &str, case: &GroupCase) -> Vec<String> {
     if name == "narrow" {
         words.push(format!("--dev={}", limit(case.limits.deviation)));
         words.extend(["--spread".to_string(), limit(case.limits.spread)]);
+        // without the option the limit is any
+        if case.limits.pairs != Limit::Any || case.total % 2 == 0 {
+            words.push(format!("--pairs={}", limit(case.limits.pairs)));
+        }
     }
     let members = case.ranges().into_iter().zip(&case.marks);
     words.extend(
@@ -171,7 +176,8 @@ fn levelled(case: &GroupCase) -> Result<String, Refusal> {
     let mut plan = vec![0; case.lows.len()];
     let found = independent::level(&case.lows, &case.highs, &case.marks, case.total, &mut plan)?;
     let shares: String = plan.iter().map(|share| format!(" {share}")).collect();
-    Ok(format!("(group 1 {} {} {} (plan{shares}))\n", found.level, found.deviation.0, found.spread.0))
+    let (deviation, spread, pairs) = (found.deviation.0, found.spread.0, found.pairs.0);
+    Ok(format!("(group 1 {} {deviation} {spread} {pairs} (plan{shares}))\n", found.level))
 }
 
 /// A group's unit lines by the independent planner.
@@ -200,7 +206,7 @@ fn visible(topic: &mut Topic) {
 
 /// Wrong words: nothing is printed but what is wrong, and the status is 2.
 fn wrong_words(topic: &mut Topic) {
-    let wrong: [&[&str]; 17] = [
+    let wrong: [&[&str]; 19] = [
         &[],
         &["plan"],
         &["Settle"],
@@ -211,12 +217,14 @@ fn wrong_words(topic: &mut Topic) {
         &["level", "--total", "20"],
         &["level", "8..10"],
         &["level", "--total", "20", "--dev", "4", "8..10"],
+        &["level", "--total", "20", "--pairs", "4", "8..10"],
         &["level", "--total", "20", "--total", "20", "8..10"],
         &["level", "--total", "12,000", "8..10"],
         &["level", "--total", "20", "8-10"],
         &["level", "--total", "20", "8..ten"],
         &["narrow", "--total", "20", "--dev", "-4", "8..10"],
         &["narrow", "--total", "20", "--spread", "", "8..10"],
+        &["narrow", "--total", "20", "--pairs", "four", "8..10"],
         &["narrow", "--total", "20", "..10"],
     ];
     for words in wrong {

@@ -35,7 +35,7 @@ fn programs(topic: &mut Topic) {
     let worked = WORKED.replacen("0 10", "7 10", 1);
     let cases = [
         (WORKED, WORKED_REPORT),
-        (PAIRS, "(settled 1)\n(unit 1 0 1)\n(unit 2 0 1)\n(unit 3 0 1)\n(group 1 0 2 1 (plan 1 0))\n(group 2 0 2 1 (plan 1 0))\n(group 3 0 2 1 (plan 1 0))\n"),
+        (PAIRS, "(settled 1)\n(unit 1 0 1)\n(unit 2 0 1)\n(unit 3 0 1)\n(group 1 0 2 1 1 (plan 1 0))\n(group 2 0 2 1 1 (plan 1 0))\n(group 3 0 2 1 1 (plan 1 0))\n"),
         (&worked, "(refused 12 1)\n"),
         ("(unit 4 9)\n(shut)\n", "(settled 1)\n(unit 1 4 9)\n(unit 2 0 0)\n"),
         ("", "(refused 10 0)\n"),

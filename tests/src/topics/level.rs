@@ -4,9 +4,9 @@ use super::fillers;
 use crate::calls::Level;
 use crate::cases::groups::{large, small, GroupCase};
 use crate::check::{Checks, Topic};
-use crate::enumerate::{self, above, deviation, deviation_bound, running, share_lists, spread, total_at};
+use crate::enumerate::{self, above, deviation, deviation_bound, pairs, running, share_lists, spread, total_at};
 use crate::independent::{self, GREATEST_SHARE, MOST_UNITS};
-use danivomel::{Deviation, Levelled, Refusal, Spread};
+use danivomel::{Deviation, Levelled, Pairs, Refusal, Spread};
 
 /// What a levelling should answer: the figures and the shares, or a refusal.
 type Expected = Result<(Levelled, Vec<u64>), Refusal>;
@@ -47,9 +47,11 @@ fn check(topic: &mut Topic, level: Level, case: &GroupCase, spare: usize, expect
     topic.same(case, "plan list after the call", plan, after);
 }
 
-/// An answer with shares.
-fn shares(level: u64, deviation: u64, spread: u64, plan: &[u64]) -> Expected {
-    Ok((Levelled { level, deviation: Deviation(deviation), spread: Spread(spread) }, plan.to_vec()))
+/// An answer with shares; the figures are deviation, spread and pairs.
+fn shares(level: u64, figures: [u64; 3], plan: &[u64]) -> Expected {
+    let [deviation, spread, pairs] = figures;
+    let (deviation, spread, pairs) = (Deviation(deviation), Spread(spread), Pairs(pairs));
+    Ok((Levelled { level, deviation, spread, pairs }, plan.to_vec()))
 }
 
 /// A refusal.
@@ -60,21 +62,21 @@ fn refused(number: u64, place: u64) -> Expected {
 /// The specification's known shares, and examples 1, 2, 3 and 5 of 001.
 fn known(topic: &mut Topic, level: Level) {
     let first = [(8, 10), (4, 7), (1, 5), (3, 4)];
-    check(topic, level, &GroupCase::of(&first, 20), 2, shares(4, 24, 48, &[8, 4, 4, 4]));
-    check(topic, level, &GroupCase::of(&first, 17), 2, shares(2, 30, 83, &[8, 4, 2, 3]));
+    check(topic, level, &GroupCase::of(&first, 20), 2, shares(4, [24, 48, 12], &[8, 4, 4, 4]));
+    check(topic, level, &GroupCase::of(&first, 17), 2, shares(2, [30, 83, 19], &[8, 4, 2, 3]));
     topic.same(&first, "001, example 3: n times 2 × max(1, 3)", deviation_bound(&first, 20), 4 * 6);
     let ten = [(0, 1); 10];
-    check(topic, level, &GroupCase::of(&ten, 5), 2, shares(0, 50, 25, &[1, 1, 1, 1, 1, 0, 0, 0, 0, 0]));
+    check(topic, level, &GroupCase::of(&ten, 5), 2, shares(0, [50, 25, 25], &[1, 1, 1, 1, 1, 0, 0, 0, 0, 0]));
     let three = [(1, 3), (2, 6), (3, 9)];
-    check(topic, level, &GroupCase::of(&three, 10), 0, shares(3, 4, 2, &[3, 4, 3]));
-    check(topic, level, &GroupCase::of(&three, 9), 0, shares(3, 0, 0, &[3, 3, 3]));
-    check(topic, level, &GroupCase::of(&three, 6), 0, shares(1, 6, 6, &[1, 2, 3]));
-    check(topic, level, &GroupCase::of(&three, 18), 0, shares(1_000_000, 18, 54, &[3, 6, 9]));
+    check(topic, level, &GroupCase::of(&three, 10), 0, shares(3, [4, 2, 2], &[3, 4, 3]));
+    check(topic, level, &GroupCase::of(&three, 9), 0, shares(3, [0, 0, 0], &[3, 3, 3]));
+    check(topic, level, &GroupCase::of(&three, 6), 0, shares(1, [6, 6, 4], &[1, 2, 3]));
+    check(topic, level, &GroupCase::of(&three, 18), 0, shares(1_000_000, [18, 54, 12], &[3, 6, 9]));
     check(topic, level, &GroupCase::of(&three, 5), 0, refused(11, 0));
     check(topic, level, &GroupCase::of(&three, 19), 0, refused(11, 0));
-    check(topic, level, &GroupCase::of(&[(0, 10); 3], 10), 0, shares(3, 4, 2, &[4, 3, 3]));
-    check(topic, level, &GroupCase::of(&[(0, 2), (0, 9), (0, 9)], 11), 0, shares(4, 10, 14, &[2, 5, 4]));
-    check(topic, level, &GroupCase::of(&[(0, 0), (0, 9)], 7), 0, shares(7, 14, 49, &[0, 7]));
+    check(topic, level, &GroupCase::of(&[(0, 10); 3], 10), 0, shares(3, [4, 2, 2], &[4, 3, 3]));
+    check(topic, level, &GroupCase::of(&[(0, 2), (0, 9), (0, 9)], 11), 0, shares(4, [10, 14, 6], &[2, 5, 4]));
+    check(topic, level, &GroupCase::of(&[(0, 0), (0, 9)], 7), 0, shares(7, [14, 49, 7], &[0, 7]));
 }
 
 /// What enumeration says of a levelling.
@@ -85,8 +87,8 @@ fn by_enumeration(case: &GroupCase, lists: &[Vec<u64>]) -> Expected {
     };
     let level = enumerate::level(&case.ranges(), case.total).expect("the lows are within the total");
     let shares = running(plan, &case.marks);
-    let (deviation, spread) = (deviation(&shares, case.total), spread(&shares, case.total));
-    Ok((Levelled { level, deviation, spread }, plan.clone()))
+    let (deviation, spread, pairs) = (deviation(&shares, case.total), spread(&shares, case.total), pairs(&shares));
+    Ok((Levelled { level, deviation, spread, pairs }, plan.clone()))
 }
 
 /// 002's example for every total, and beyond.
@@ -105,18 +107,20 @@ fn enumerated(topic: &mut Topic, level: Level) {
         let lists = share_lists(&case.ranges(), case.total);
         let expected = by_enumeration(&case, &lists);
         if let Ok((levelled, plan)) = &expected {
-            least_of_all(topic, &case, &lists, levelled.deviation, plan);
+            least_of_all(topic, &case, &lists, levelled, plan);
         }
         let spare = topic.random.index(4);
         check(topic, level, &case, spare, expected);
     }
 }
 
-/// No share list has a lesser deviation, or less in total above any t; both are the running members'.
-fn least_of_all(topic: &mut Topic, case: &GroupCase, lists: &[Vec<u64>], found: Deviation, plan: &[u64]) {
+/// No share list has a lesser deviation, lesser pair differences, or less in total above any t; all three are the running
+/// members'.
+fn least_of_all(topic: &mut Topic, case: &GroupCase, lists: &[Vec<u64>], found: &Levelled, plan: &[u64]) {
     let lists: Vec<Vec<u64>> = lists.iter().map(|list| running(list, &case.marks)).collect();
     let least = lists.iter().map(|list| deviation(list, case.total)).min();
-    topic.same(case, "least deviation", least, Some(found));
+    topic.same(case, "least deviation", least, Some(found.deviation));
+    topic.same(case, "least pairs", lists.iter().map(|list| pairs(list)).min(), Some(found.pairs));
     let lowest = running(&case.lows, &case.marks).into_iter().min().unwrap_or(0);
     for t in lowest..lowest + 18 {
         let least = lists.iter().map(|list| above(list, t)).min();
@@ -141,16 +145,22 @@ fn every_value(topic: &mut Topic, level: Level) {
 /// The edges of every range, and numbers that would wrap.
 fn edges(topic: &mut Topic, level: Level) {
     let top = GREATEST_SHARE;
-    check(topic, level, &GroupCase::of(&[(0, top)], 5), 0, shares(5, 0, 0, &[5]));
-    check(topic, level, &GroupCase::of(&[(0, top)], 0), 0, shares(0, 0, 0, &[0]));
-    check(topic, level, &GroupCase::of(&[(0, top)], top), 0, shares(top, 0, 0, &[top]));
+    check(topic, level, &GroupCase::of(&[(0, top)], 5), 0, shares(5, [0, 0, 0], &[5]));
+    check(topic, level, &GroupCase::of(&[(0, top)], 0), 0, shares(0, [0, 0, 0], &[0]));
+    check(topic, level, &GroupCase::of(&[(0, top)], top), 0, shares(top, [0, 0, 0], &[top]));
     check(topic, level, &GroupCase::of(&[(0, top)], top + 1), 0, refused(11, 0));
-    check(topic, level, &GroupCase::of(&[(0, 0)], 0), 0, shares(top, 0, 0, &[0]));
-    check(topic, level, &GroupCase::of(&[(7, 7)], 7), 0, shares(top, 0, 0, &[7]));
-    check(topic, level, &GroupCase::of(&[(0, top), (0, top)], 2 * top - 1), 0, shares(top - 1, 2, 1, &[top, top - 1]));
-    check(topic, level, &GroupCase::of(&[(0, top); 256], 256 * top), 0, shares(top, 0, 0, &[top; 256]));
-    check(topic, level, &GroupCase::of(&[(0, top); 256], 256 * top), 300, shares(top, 0, 0, &[top; 256]));
-    check(topic, level, &GroupCase::of(&[(top, top); 256], 256 * top), 0, shares(top, 0, 0, &[top; 256]));
+    check(topic, level, &GroupCase::of(&[(0, 0)], 0), 0, shares(top, [0, 0, 0], &[0]));
+    check(topic, level, &GroupCase::of(&[(7, 7)], 7), 0, shares(top, [0, 0, 0], &[7]));
+    check(
+        topic,
+        level,
+        &GroupCase::of(&[(0, top), (0, top)], 2 * top - 1),
+        0,
+        shares(top - 1, [2, 1, 1], &[top, top - 1]),
+    );
+    check(topic, level, &GroupCase::of(&[(0, top); 256], 256 * top), 0, shares(top, [0, 0, 0], &[top; 256]));
+    check(topic, level, &GroupCase::of(&[(0, top); 256], 256 * top), 300, shares(top, [0, 0, 0], &[top; 256]));
+    check(topic, level, &GroupCase::of(&[(top, top); 256], 256 * top), 0, shares(top, [0, 0, 0], &[top; 256]));
     check(topic, level, &GroupCase::of(&[(top, top); 256], 256 * top - 1), 0, refused(11, 0));
     check(topic, level, &GroupCase::of(&[(0, top); 256], 256 * top + 1), 0, refused(4, 0));
     check(topic, level, &GroupCase::of(&[(0, top); 257], 5), 0, refused(1, 0));
@@ -166,7 +176,7 @@ fn edges(topic: &mut Topic, level: Level) {
         level,
         &GroupCase::of(&halves, 128 * top),
         0,
-        shares(top, 256 * 128 * top, 128 * 128 * top * top, &plan),
+        shares(top, [256 * 128 * top, 128 * 128 * top * top, 128 * 128 * top], &plan),
     );
 }
 
@@ -203,6 +213,7 @@ fn levelled_by_law(topic: &mut Topic, case: &GroupCase, levelled: Levelled, plan
     let shares = running(plan, &case.marks);
     topic.same(case, "deviation", levelled.deviation, deviation(&shares, case.total));
     topic.same(case, "spread", levelled.spread, spread(&shares, case.total));
+    topic.same(case, "pairs", levelled.pairs, pairs(&shares));
     let bound = deviation_bound(&running(&ranges, &case.marks), case.total);
     let divides = shares.is_empty() || case.total % shares.len() as u64 == 0;
     topic.holds(case, "bound", levelled.deviation.0 >= bound && (!divides || levelled.deviation.0 == bound));

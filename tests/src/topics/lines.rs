@@ -89,24 +89,28 @@ fn shut_sets(topic: &mut Topic, read: Read) {
 
 /// Group lines with each set of the faults 13, 14, 15, 3, 4, 6, 8 and 9.
 fn group_sets(topic: &mut Topic, read: Read) {
-    let numbers = with_ailments(&[4, 4, 4, 6, 6, 8, 8, 9]);
+    let numbers = with_ailments(&[4, 4, 4, 4, 6, 6, 8, 8, 9]);
     let all: Vec<String> = (1..=64).map(|number| number.to_string()).collect();
-    for set in 1u32..1 << numbers.len() {
+    // a pairs limit beyond its range goes with 64 short groups, and not with 4,096 memberships, which take long to read
+    let tried = |set: &u32| !(has(own_of(*set), 3) && has(own_of(*set), 5));
+    for set in (1u32..1 << numbers.len()).filter(tried) {
         let own = own_of(set);
         let mut text = "(unit 0 9)\n".repeat(64);
-        let members = if has(own, 4) { all.join(" ") } else { "1".to_string() };
-        let groups = if has(own, 3) { 64 } else { 63 };
+        let members = if has(own, 5) { all.join(" ") } else { "1".to_string() };
+        let groups = if has(own, 4) { 64 } else { 63 };
         text.push_str(&format!("(group 5 (dev any) (spread any) (of {members}))\n").repeat(groups));
         let total = if has(own, 0) { "256000001" } else { "5" };
         let dev = if has(own, 1) { "100000000001" } else { "7" };
         let spread = if has(own, 2) { "99999999999999999999" } else { "any" };
-        let mut of = if has(own, 4) { all.join(" ") } else { "3 4".to_string() };
-        for (fault, more) in [(4, " 63"), (5, " 0"), (6, " 65"), (7, " 4")] {
-            if has(own, fault) && (fault != 4 || !has(own, 7)) {
+        let pairs = if has(own, 3) { "100000000001" } else { "100000000000" };
+        let mut of = if has(own, 5) { all.join(" ") } else { "3 4".to_string() };
+        for (fault, more) in [(5, " 63"), (6, " 0"), (7, " 65"), (8, " 4")] {
+            if has(own, fault) && (fault != 5 || !has(own, 8)) {
                 of.push_str(more);
             }
         }
-        text.push_str(&ailing(set, "group", &format!(" {total} (dev {dev}) (spread {spread}) (of {of})")));
+        let limits = format!("(dev {dev}) (spread {spread}) (pairs {pairs})");
+        text.push_str(&ailing(set, "group", &format!(" {total} {limits} (of {of})")));
         refused(topic, read, text.as_bytes(), first_of(set, &numbers), 64 + groups as u64 + 1);
     }
 }
@@ -122,7 +126,9 @@ fn bad_lines() -> Vec<(u64, String)> {
         (3, "(unit 1  2)".to_string()),
         (3, "(shut 0 0)".to_string()),
         (4, "(unit 0 1000001)".to_string()),
+        (3, group("5 (dev any) (pairs any) (spread any) (of 1)")),
         (4, group("256000001 (dev any) (spread any) (of 1)")),
+        (4, group("5 (dev any) (spread any) (pairs 100000000001) (of 1 0)")),
         (5, "(unit 0 9)".to_string()),
         (5, "(shut)".to_string()),
         (8, group("5 (dev any) (spread any) (of 1 0)")),
@@ -161,6 +167,8 @@ fn forms(topic: &mut Topic, read: Read) {
         "(shut)\n",
         "(group 30 (dev 41) (spread any) (of 1 2))\n",
         "(group 30 (dev any) (spread 56) (of 2))\n",
+        "(group 30 (dev any) (spread any) (pairs 7) (of 2))\n",
+        "(group 30 (dev any) (spread 5) (pairs any) (of 2 1))\n",
     ];
     let opening = "(unit 0 99)\n(unit 0 99)\n";
     for line in lines {

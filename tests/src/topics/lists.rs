@@ -5,7 +5,7 @@ use super::faults::{each_combination, fault, Fault};
 use super::fillers;
 use crate::calls::{Level, Narrow};
 use crate::check::Checks;
-use danivomel::{Limit, Limits};
+use danivomel::{Limit, Limits, Refusal};
 
 /// What a call on lists gets.
 #[derive(Clone, Debug, PartialEq, Eq)]
@@ -33,12 +33,16 @@ pub fn run_level(checks: &mut Checks, who: &str, level: Level) {
 /// Tries a planner's refusals of narrowing.
 pub fn run_narrow(checks: &mut Checks, who: &str, narrow: Narrow) {
     checks.topic("narrow, refusals in every combination", who, |topic| {
-        each_combination(&sound(), &narrow_faults(), |lists, expected| {
+        let mut refused = |lists: &Lists, expected: Refusal| {
             let mut after = lists.clone();
             let found = narrow(&mut after.lows, &mut after.highs, &lists.marks, lists.total, lists.limits);
             topic.same(lists, "refusal", found, Err(expected));
             topic.same(lists, "lists after the refusal", &after, lists);
-        });
+        };
+        each_combination(&sound(), &narrow_faults(shape_faults(), false), &mut refused);
+        // with one fault of the lists' lengths: with all six there are four million sets
+        let marks = fault(1, 0, |lists: &mut Lists| lists.marks.truncate(4));
+        each_combination(&sound(), &narrow_faults(vec![marks], true), &mut refused);
     });
 }
 
@@ -67,17 +71,24 @@ fn level_faults() -> Vec<Fault<Lists>> {
     faults
 }
 
-/// The faults of a narrowing in the order in which they are looked for.
-fn narrow_faults() -> Vec<Fault<Lists>> {
-    let mut faults = shape_faults();
+/// The faults of a narrowing in the order in which they are looked for, behind those of the lists' lengths; with those of
+/// the pairs limit or without.
+fn narrow_faults(shape: Vec<Fault<Lists>>, with_pairs: bool) -> Vec<Fault<Lists>> {
+    let mut faults = shape;
     faults.extend(unit_faults());
     faults.push(fault(4, 0, |lists| lists.total = 256_000_001));
     faults.push(fault(4, 0, |lists| lists.limits.deviation = Limit::AtMost(100_000_000_001)));
     faults.push(fault(4, 0, |lists| lists.limits.spread = Limit::AtMost(100_000_000_000_000_001)));
+    if with_pairs {
+        faults.push(fault(4, 0, |lists| lists.limits.pairs = Limit::AtMost(100_000_000_001)));
+    }
     faults.extend(order_faults());
     faults.push(fault(11, 0, |lists| lists.total = 151));
     faults.push(fault(12, 0, |lists| lists.limits.deviation = Limit::AtMost(1)));
     faults.push(fault(12, 0, |lists| lists.limits.spread = Limit::AtMost(1)));
+    if with_pairs {
+        faults.push(fault(12, 0, |lists| lists.limits.pairs = Limit::AtMost(1)));
+    }
     faults
 }
 

@@ -7,7 +7,7 @@ use crate::cases::groups::{large, limits_of, small, GroupCase};
 use crate::check::{Checks, Topic};
 use crate::enumerate::Range;
 use crate::independent::{GREATEST_SHARE, RUNNING, SHUT};
-use danivomel::{Deviation, Levelled, Limit, Refusal, Spread};
+use danivomel::{Deviation, Levelled, Limit, Pairs, Refusal, Spread};
 use Limit::{Any, AtMost};
 
 /// What a narrowing should leave: the ranges, or a refusal.
@@ -41,33 +41,34 @@ fn refused<T>(number: u64, place: u64) -> Result<T, Refusal> {
     Err(Refusal { number, place })
 }
 
-/// Known shares: a level, both figures and the shares, for a group with marks.
+/// Known shares: a level, the three figures and the shares, for a group with marks.
 fn known_shares(topic: &mut Topic, level: Level) {
-    let mut shares = |case: GroupCase, levels: [u64; 3], plan: &[u64]| {
-        let [at, deviation, spread] = levels;
-        let expected = Levelled { level: at, deviation: Deviation(deviation), spread: Spread(spread) };
+    let mut shares = |case: GroupCase, levels: [u64; 4], plan: &[u64]| {
+        let [at, deviation, spread, pairs] = levels;
+        let (deviation, spread, pairs) = (Deviation(deviation), Spread(spread), Pairs(pairs));
+        let expected = Levelled { level: at, deviation, spread, pairs };
         topic.same(&case, "answer and shares", levelled(level, &case), (Ok(expected), plan.to_vec()));
     };
     let top = GREATEST_SHARE;
     let five = || GroupCase::of(&[(8, 10), (0, 0), (4, 7), (1, 5), (3, 4)], 20);
-    shares(five().marked(&[0, 1, 0, 0, 0]), [4, 24, 48], &[8, 0, 4, 4, 4]);
-    shares(five(), [4, 40, 160], &[8, 0, 4, 4, 4]);
+    shares(five().marked(&[0, 1, 0, 0, 0]), [4, 24, 48, 12], &[8, 0, 4, 4, 4]);
+    shares(five(), [4, 40, 160, 32], &[8, 0, 4, 4, 4]);
     let two = || GroupCase::of(&[(0, 0), (0, 9)], 7);
-    shares(two().marked(&[1, 0]), [7, 0, 0], &[0, 7]);
-    shares(two(), [7, 14, 49], &[0, 7]);
+    shares(two().marked(&[1, 0]), [7, 0, 0, 0], &[0, 7]);
+    shares(two(), [7, 14, 49, 7], &[0, 7]);
     let three = || GroupCase::of(&[(0, 10), (0, 0), (0, 10), (0, 0), (0, 10)], 10);
-    shares(three().marked(&[0, 1, 0, 1, 0]), [3, 4, 2], &[4, 0, 3, 0, 3]);
-    shares(three().marked(&[0, 0, 0, 1, 0]), [3, 20, 36], &[4, 0, 3, 0, 3]);
+    shares(three().marked(&[0, 1, 0, 1, 0]), [3, 4, 2, 2], &[4, 0, 3, 0, 3]);
+    shares(three().marked(&[0, 0, 0, 1, 0]), [3, 20, 36, 12], &[4, 0, 3, 0, 3]);
     // where all are shut, the level is the greatest of all: no copy is left over at any level
     for n in [1, 2, 256] {
-        shares(GroupCase::of(&vec![(0, 0); n], 0).marked(&vec![SHUT; n]), [top, 0, 0], &vec![0; n]);
+        shares(GroupCase::of(&vec![(0, 0); n], 0).marked(&vec![SHUT; n]), [top, 0, 0, 0], &vec![0; n]);
     }
-    shares(GroupCase::of(&[(0, 0), (5, 5)], 5).marked(&[1, 0]), [top, 0, 0], &[0, 5]);
+    shares(GroupCase::of(&[(0, 0), (5, 5)], 5).marked(&[1, 0]), [top, 0, 0, 0], &[0, 5]);
     let mut half = [(0, 0); 256];
     half[128..].fill((0, top));
     let marks: Vec<u64> = half.iter().map(|range| if range.1 == 0 { SHUT } else { RUNNING }).collect();
     let plan: Vec<u64> = half.iter().map(|range| range.1).collect();
-    shares(GroupCase::of(&half, 128 * top).marked(&marks), [top, 0, 0], &plan);
+    shares(GroupCase::of(&half, 128 * top).marked(&marks), [top, 0, 0, 0], &plan);
 }
 
 /// Known ranges: those of the press with a shut member, and limits that only leaving it out meets.
@@ -82,18 +83,23 @@ fn known_ranges(topic: &mut Topic, narrow: Narrow) {
     left(shut().under(AtMost(28), Any), Ok(some.clone()));
     left(shut().under(Any, AtMost(56)), Ok(some));
     left(shut().under(AtMost(24), AtMost(48)), Ok(vec![(8, 8), (4, 4), (0, 0), (4, 4), (4, 4)]));
+    left(shut().under_pairs(AtMost(16)), Ok(vec![(8, 8), (4, 5), (0, 0), (3, 5), (3, 4)]));
+    left(shut().under_pairs(AtMost(15)), Ok(vec![(8, 8), (4, 4), (0, 0), (4, 4), (4, 4)]));
+    left(shut().under_pairs(AtMost(11)), refused(12, 0));
     left(shut().under(AtMost(23), Any), refused(12, 0));
     left(shut().under(Any, AtMost(47)), refused(12, 0));
     left(five().under(AtMost(28), Any), refused(12, 0));
     left(five().under(AtMost(39), Any), refused(12, 0));
     left(five().under(AtMost(40), AtMost(160)), Ok(vec![(8, 8), (4, 4), (0, 0), (4, 4), (4, 4)]));
-    let all = |total| GroupCase::of(&[(0, 0), (0, 0)], total).marked(&[1, 1]);
+    left(five().under_pairs(AtMost(31)), refused(12, 0));
+    left(five().under_pairs(AtMost(32)), Ok(vec![(8, 8), (4, 4), (0, 0), (4, 4), (4, 4)]));
+    let all = |total| GroupCase::of(&[(0, 0), (0, 0)], total).marked(&[1, 1]).under_pairs(AtMost(0));
     left(all(0).under(AtMost(0), AtMost(0)), Ok(vec![(0, 0), (0, 0)]));
     left(all(1), refused(11, 0));
     left(all(1).under(AtMost(0), AtMost(0)), refused(11, 0));
     left(all(256_000_000), refused(11, 0));
     let one = GroupCase::of(&[(0, 0), (0, 9), (0, 0)], 4).marked(&[1, 0, 1]);
-    left(one.under(AtMost(0), AtMost(0)), Ok(vec![(0, 0), (4, 4), (0, 0)]));
+    left(one.under(AtMost(0), AtMost(0)).under_pairs(AtMost(0)), Ok(vec![(0, 0), (4, 4), (0, 0)]));
 }
 
 /// Every wrong range of a shut member, every wrong mark and every wrong number of marks, at each of three members.

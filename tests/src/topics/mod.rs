@@ -15,6 +15,7 @@ pub mod linked;
 pub mod lists;
 pub mod marks;
 pub mod narrow;
+pub mod pairs;
 pub mod program;
 pub mod read;
 pub mod report;

@@ -73,14 +73,23 @@ fn known(topic: &mut Topic, narrow: Narrow) {
     check(topic, narrow, &first().under(AtMost(24), Any), Ok(vec![(8, 8), (4, 5), (3, 5), (3, 4)]));
     check(topic, narrow, &first().under(Any, AtMost(47)), refused(12));
     check(topic, narrow, &first().under(AtMost(23), Any), refused(12));
+    check(topic, narrow, &first().under_pairs(AtMost(18)), Ok(vec![(8, 9), (4, 6), (3, 5), (3, 4)]));
+    check(topic, narrow, &first().under_pairs(AtMost(17)), Ok(vec![(8, 8), (4, 5), (3, 5), (3, 4)]));
+    check(topic, narrow, &first().under_pairs(AtMost(16)), Ok(vec![(8, 8), (4, 5), (3, 5), (3, 4)]));
+    check(topic, narrow, &first().under_pairs(AtMost(15)), Ok(only.clone()));
+    check(topic, narrow, &first().under_pairs(AtMost(12)), Ok(only));
+    check(topic, narrow, &first().under_pairs(AtMost(11)), refused(12));
     let ten = || GroupCase::of(&[(0, 1); 10], 5);
     check(topic, narrow, &ten().under(AtMost(30), Any), refused(12));
     check(topic, narrow, &ten().under(AtMost(50), Any), Ok(vec![(0, 1); 10]));
+    check(topic, narrow, &ten().under_pairs(AtMost(24)), refused(12));
+    check(topic, narrow, &ten().under_pairs(AtMost(25)), Ok(vec![(0, 1); 10]));
     let three = |total| GroupCase::of(&[(1, 3), (2, 6), (3, 9)], total);
     check(topic, narrow, &three(5), refused(11));
     check(topic, narrow, &three(19), refused(11));
     check(topic, narrow, &three(18), Ok(vec![(3, 3), (6, 6), (9, 9)]));
-    check(topic, narrow, &GroupCase::of(&[(0, 9)], 4).under(AtMost(0), AtMost(0)), Ok(vec![(4, 4)]));
+    let one = GroupCase::of(&[(0, 9)], 4).under(AtMost(0), AtMost(0)).under_pairs(AtMost(0));
+    check(topic, narrow, &one, Ok(vec![(4, 4)]));
 }
 
 /// Cases that the programs which the specification calls wrong would fail.
@@ -91,6 +100,8 @@ fn wrong_turns(topic: &mut Topic, narrow: Narrow) {
     check(topic, narrow, &three().under(Any, AtMost(2)), Ok(vec![(3, 3), (3, 4), (3, 4)]));
     check(topic, narrow, &three().under(AtMost(3), Any), refused(12));
     check(topic, narrow, &three().under(AtMost(4), Any), Ok(vec![(3, 3), (3, 4), (3, 4)]));
+    check(topic, narrow, &three().under_pairs(AtMost(1)), refused(12));
+    check(topic, narrow, &three().under_pairs(AtMost(2)), Ok(vec![(3, 3), (3, 4), (3, 4)]));
     let ten = || GroupCase::of(&[(0, 1); 10], 5);
     check(topic, narrow, &ten().under(AtMost(49), Any), refused(12));
     check(topic, narrow, &ten().under(Any, AtMost(24)), refused(12));
@@ -106,6 +117,12 @@ fn wrong_turns(topic: &mut Topic, narrow: Narrow) {
     check(topic, narrow, &wide().under(Any, AtMost(6)), Ok(vec![(2, 4), (2, 4), (3, 3)]));
     check(topic, narrow, &wide().under(AtMost(12), AtMost(6)), Ok(vec![(2, 4), (2, 4), (3, 3)]));
     check(topic, narrow, &wide().under(AtMost(6), AtMost(54)), Ok(vec![(2, 4), (2, 4), (3, 3)]));
+    check(topic, narrow, &wide().under_pairs(AtMost(8)), Ok(vec![(1, 5), (1, 5), (3, 3)]));
+    check(topic, narrow, &wide().under_pairs(AtMost(7)), Ok(vec![(2, 4), (2, 4), (3, 3)]));
+    check(topic, narrow, &wide().under(AtMost(12), Any).under_pairs(AtMost(4)), Ok(vec![(2, 4), (2, 4), (3, 3)]));
+    check(topic, narrow, &wide().under(AtMost(6), Any).under_pairs(AtMost(8)), Ok(vec![(2, 4), (2, 4), (3, 3)]));
+    check(topic, narrow, &wide().under(Any, AtMost(6)).under_pairs(AtMost(8)), Ok(vec![(2, 4), (2, 4), (3, 3)]));
+    check(topic, narrow, &wide().under(AtMost(12), AtMost(24)).under_pairs(AtMost(0)), Ok(vec![(3, 3); 3]));
 }
 
 /// What enumeration says of a narrowing. The values taken must form a range.
@@ -132,8 +149,17 @@ fn by_enumeration(topic: &mut Topic, case: &GroupCase) -> Expected {
 fn every_total(topic: &mut Topic, narrow: Narrow) {
     for total in 5..=19 {
         for most in 0..=60 {
-            for (deviation, spread) in [(AtMost(most), Any), (Any, AtMost(most)), (AtMost(most), AtMost(60 - most))] {
-                let case = GroupCase::of(&[(1, 3), (2, 6), (3, 9)], total).under(deviation, spread);
+            let few = AtMost(15 - most / 4);
+            for (deviation, spread, pairs) in [
+                (AtMost(most), Any, Any),
+                (Any, AtMost(most), Any),
+                (Any, Any, AtMost(most)),
+                (AtMost(most), AtMost(60 - most), Any),
+                (AtMost(most), Any, few),
+                (Any, AtMost(most), few),
+                (AtMost(most), AtMost(60 - most), AtMost(most % 16)),
+            ] {
+                let case = GroupCase::of(&[(1, 3), (2, 6), (3, 9)], total).under(deviation, spread).under_pairs(pairs);
                 let expected = by_enumeration(topic, &case);
                 check(topic, narrow, &case, expected);
             }
@@ -141,7 +167,7 @@ fn every_total(topic: &mut Topic, narrow: Narrow) {
     }
 }
 
-/// Small groups under no limit, one or both.
+/// Small groups under no limit, one, two or all three.
 fn enumerated(topic: &mut Topic, narrow: Narrow) {
     for _ in 0..12_000 {
         let mut case = small(&mut topic.random);
@@ -163,6 +189,10 @@ fn edges(topic: &mut Topic, narrow: Narrow) {
         &full().under(AtMost(100_000_000_000), AtMost(100_000_000_000_000_000)),
         Ok(vec![(0, top); 256]),
     );
+    check(topic, narrow, &full().under_pairs(AtMost(100_000_000_000)), Ok(vec![(0, top); 256]));
+    check(topic, narrow, &full().under_pairs(AtMost(0)), Ok(vec![(top / 2, top / 2); 256]));
+    check(topic, narrow, &full().under_pairs(AtMost(100_000_000_001)), refused(4));
+    check(topic, narrow, &full().under_pairs(AtMost(u64::MAX)), refused(4));
     check(topic, narrow, &full().under(AtMost(0), Any), Ok(vec![(top / 2, top / 2); 256]));
     check(topic, narrow, &full().under(Any, AtMost(0)), Ok(vec![(top / 2, top / 2); 256]));
     check(topic, narrow, &full().under(AtMost(100_000_000_001), Any), refused(4));
@@ -175,6 +205,12 @@ fn edges(topic: &mut Topic, narrow: Narrow) {
     check(topic, narrow, &GroupCase::of(&[], 0), refused(1));
     check(topic, narrow, &GroupCase::of(&[(0, top), (0, top)], 2 * top - 1), Ok(vec![(top - 1, top), (top - 1, top)]));
     check(topic, narrow, &GroupCase::of(&[(0, top), (0, top)], 1), Ok(vec![(0, 1), (0, 1)]));
+    // half of the members at either end, which is the greatest figure of all
+    let mut halves = vec![(0, 0); 256];
+    halves[128..].fill((top, top));
+    let ends = |pairs| GroupCase::of(&halves, 128 * top).under_pairs(AtMost(pairs));
+    check(topic, narrow, &ends(128 * 128 * top), Ok(halves.clone()));
+    check(topic, narrow, &ends(128 * 128 * top - 1), refused(12));
     let unit = |place| Err(Refusal { number: 4, place });
     check(topic, narrow, &GroupCase::of(&[(u64::MAX, u64::MAX); 2], u64::MAX), unit(1));
     check(topic, narrow, &GroupCase::of(&[(0, top), (0, top + 1)], 0), unit(2));

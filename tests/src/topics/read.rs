@@ -51,7 +51,7 @@ pub fn refused(topic: &mut Topic, read: Read, text: &[u8], number: u64, place: u
 }
 
 /// Checks that a text is read as a number of units and groups.
-fn accepted(topic: &mut Topic, read: Read, text: &[u8], units: usize, groups: usize) {
+pub fn accepted(topic: &mut Topic, read: Read, text: &[u8], units: usize, groups: usize) {
     let (answer, table) = attempt(read, text, 256);
     topic.same(&Shown(text), "counts", answer, Ok(Counts { units, groups }));
     topic.same(&Shown(text), "entries past the units", &table[units..], &filler_table(256)[units..]);
@@ -175,14 +175,17 @@ fn number_edges() -> Vec<(String, u64)> {
     let totals = [("0", 0), ("256000000", 0), ("256000001", 4), (&huge, 4), ("any", 3), ("05", 3)];
     let deviations = [("0", 0), ("100000000000", 0), ("100000000001", 4), (&huge, 4), ("anyy", 3), ("an", 3), ("", 3)];
     let spreads = [("0", 0), ("100000000000000000", 0), ("100000000000000001", 4), (&huge, 4), ("ANY", 3)];
+    let pairs =
+        [("any", 0), ("0", 0), ("100000000000", 0), ("100000000001", 4), (&huge, 4), ("05", 3), ("any ", 3), ("", 3)];
     let members =
         [("1", 0), ("0", 8), ("2", 8), ("18446744073709551617", 8), (&huge, 8), ("1 1", 9), ("", 3), ("01", 3)];
-    let forms: [(&str, &[(&str, u64)]); 6] = [
+    let forms: [(&str, &[(&str, u64)]); 7] = [
         ("(unit # 1000000)\n", &shares),
         ("(unit 0 #)\n", &shares),
         ("(group # (dev any) (spread any) (of 1))\n", &totals),
         ("(group 5 (dev #) (spread any) (of 1))\n", &deviations),
         ("(group 5 (dev any) (spread #) (of 1))\n", &spreads),
+        ("(group 5 (dev any) (spread any) (pairs #) (of 1))\n", &pairs),
         ("(group 5 (dev any) (spread any) (of #))\n", &members),
     ];
     let line = |form: &str, edge: &(&str, u64)| (form.replace('#', edge.0), edge.1);

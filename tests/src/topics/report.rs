@@ -12,7 +12,7 @@ use danivomel::{Limits, Refusal, Reported, Unsettled};
 
 /// The report of the specification's worked job.
 pub const WORKED_REPORT: &str =
-    "(settled 3)\n(unit 1 5 6)\n(unit 2 4 5)\n(unit 3 3 4)\n(group 1 5 0 0 (plan 5 5))\n(group 2 4 0 0 (plan 4 4))\n";
+    "(settled 3)\n(unit 1 5 6)\n(unit 2 4 5)\n(unit 3 3 4)\n(group 1 5 0 0 0 (plan 5 5))\n(group 2 4 0 0 0 (plan 4 4))\n";
 
 /// The bytes of the buffer before a call.
 const FILL: u8 = 0xa5;
@@ -78,7 +78,7 @@ impl PartialEq for Shown<'_> {
 fn worked(topic: &mut Topic, report: Report) {
     check(topic, report, WORKED.as_bytes(), &[(0, 10); 3], (3, WORKED_REPORT, vec![(5, 6), (4, 5), (3, 4)]));
     check(topic, report, b"(unit 3 8)\n", &[(3, 8)], (1, "(settled 1)\n(unit 1 3 8)\n", vec![(3, 8)]));
-    let one = "(settled 2)\n(unit 1 7 7)\n(group 1 1000000 0 0 (plan 7))\n";
+    let one = "(settled 2)\n(unit 1 7 7)\n(group 1 1000000 0 0 0 (plan 7))\n";
     check(topic, report, b"(unit 3 8)\n(group 7 (dev any) (spread any) (of 1))\n", &[(3, 8)], (2, one, vec![(7, 7)]));
 }
 
@@ -97,8 +97,9 @@ fn by_enumeration(job: &Job, passes: u64, table: &[Range]) -> String {
         let running = enumerate::running(plan, &marks);
         let deviation = enumerate::deviation(&running, group.total).0;
         let spread = enumerate::spread(&running, group.total).0;
+        let pairs = enumerate::pairs(&running).0;
         let shares: Vec<String> = plan.iter().map(u64::to_string).collect();
-        lines.push(format!("(group {} {level} {deviation} {spread} (plan {}))", index + 1, shares.join(" ")));
+        lines.push(format!("(group {} {level} {deviation} {spread} {pairs} (plan {}))", index + 1, shares.join(" ")));
     }
     lines.join("\n") + "\n"
 }
@@ -143,13 +144,14 @@ fn largest(topic: &mut Topic, report: Report) {
     for group in 0..64 {
         let members: Vec<usize> = (0..64).map(|member| (group * 4 + member) % 256).collect();
         let total = members.iter().map(|&unit| opening[unit].0).sum();
-        job.groups.push(independent::reader::Group { total, limits: Limits::ANY, members });
+        job.groups.push(independent::reader::Group { total, limits: Limits::ANY, says_pairs: false, members });
     }
     let text = print_job(&job);
     let expected = attempt(independent::report, &text, &opening, 65_536);
     topic.same(&"the largest report", "length", expected.0.map(|reported| reported.length > 38_000), Ok(true));
     let plan: String = (0..32).map(|_| " 1000000 100000").collect();
-    let line = format!("(group 64 1000000 {} {} (plan{plan}))\n", 64 * 64 * 450_000u64, 64u64 * 64 * 450_000 * 450_000);
+    let [deviation, spread, pairs] = [64 * 64 * 450_000, 64 * 64 * 450_000 * 450_000, 32 * 32 * 900_000u64];
+    let line = format!("(group 64 1000000 {deviation} {spread} {pairs} (plan{plan}))\n");
     let (answer, table, buffer) = attempt(report, &text, &opening, 65_536);
     let length = answer.map_or(0, |reported| reported.length);
     topic.same(

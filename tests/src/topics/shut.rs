@@ -18,7 +18,7 @@ use danivomel::{Range, Refusal, Reported, Unsettled, WRITTEN_BYTES};
 const WORKED: &str = "(unit 0 10)\n(shut)\n(unit 0 10)\n(unit 0 10)\n(group 10 (dev 4) (spread any) (of 1 2 3))\n(group 8 (dev any) (spread 4) (of 3 4 2))\n";
 
 /// Its report.
-const WORKED_REPORT: &str = "(settled 3)\n(unit 1 5 6)\n(unit 2 0 0)\n(unit 3 4 5)\n(unit 4 3 4)\n(group 1 5 0 0 (plan 5 0 5))\n(group 2 4 0 0 (plan 4 4 0))\n";
+const WORKED_REPORT: &str = "(settled 3)\n(unit 1 5 6)\n(unit 2 0 0)\n(unit 3 4 5)\n(unit 4 3 4)\n(group 1 5 0 0 0 (plan 5 0 5))\n(group 2 4 0 0 0 (plan 4 4 0))\n";
 
 /// Tries a planner's calls on jobs with shut units.
 pub fn run(checks: &mut Checks, who: &str, planner: OnTexts) {
@@ -51,7 +51,7 @@ fn settled(settle: Settle, text: &[u8], lent: &[Range]) -> (Result<u64, Unsettle
 }
 
 /// Reports on a copy of a table: the answer, the table and the report's text.
-fn reported(planner: OnTexts, text: &[u8], lent: &[Range]) -> (Result<Reported, Unsettled>, Vec<Range>, String) {
+pub fn reported(planner: OnTexts, text: &[u8], lent: &[Range]) -> (Result<Reported, Unsettled>, Vec<Range>, String) {
     let (mut table, mut buffer) = (lent.to_vec(), vec![b'~'; MOST_BYTES]);
     let answer = (planner.report)(text, &mut table, &mut fillers(SCRATCH_PER_UNIT * lent.len()), &mut buffer);
     let length = answer.map_or(0, |reported| reported.length);
@@ -59,14 +59,14 @@ fn reported(planner: OnTexts, text: &[u8], lent: &[Range]) -> (Result<Reported, 
 }
 
 /// What is written of a job with a table.
-fn written(planner: OnTexts, text: &[u8], table: &[Range]) -> Result<String, Refusal> {
+pub fn written(planner: OnTexts, text: &[u8], table: &[Range]) -> Result<String, Refusal> {
     let mut buffer = vec![0; WRITTEN_BYTES];
     let length = (planner.write)(text, table, &mut buffer)?;
     Ok(String::from_utf8_lossy(&buffer[..length]).into())
 }
 
 /// Reads a text, and reports on the table that this fills: the report, or the refusal.
-fn whole(planner: OnTexts, text: &str) -> Result<String, Refusal> {
+pub fn whole(planner: OnTexts, text: &str) -> Result<String, Refusal> {
     let mut table = vec![Range { low: 7, high: 7 }; 256];
     let counts = (planner.read)(text.as_bytes(), &mut table)?;
     let (answer, _, report) = reported(planner, text.as_bytes(), &table[..counts.units]);
@@ -83,12 +83,12 @@ fn reports(topic: &mut Topic, planner: OnTexts) {
     known(&WORKED.replace("(shut)", "(unit 0 0)"), Err((12, 1)));
     let group = |total, of| format!("(group {total} (dev 0) (spread 0) (of {of}))\n");
     let three = |second| format!("(unit 0 9)\n{second}\n(unit 0 9)\n{}", group(6, "1 2 3"));
-    let even = "(settled 2)\n(unit 1 3 3)\n(unit 2 0 0)\n(unit 3 3 3)\n(group 1 1000000 0 0 (plan 3 0 3))\n";
+    let even = "(settled 2)\n(unit 1 3 3)\n(unit 2 0 0)\n(unit 3 3 3)\n(group 1 1000000 0 0 0 (plan 3 0 3))\n";
     known(&three("(shut)"), Ok(even));
     known(&three("(unit 0 0)"), Err((12, 1)));
     known("(shut)\n", Ok("(settled 1)\n(unit 1 0 0)\n"));
     let all = |total| format!("(shut)\n(unit 1 4)\n(shut)\n{}", group(total, "3 1"));
-    known(&all(0), Ok("(settled 1)\n(unit 1 0 0)\n(unit 2 1 4)\n(unit 3 0 0)\n(group 1 1000000 0 0 (plan 0 0))\n"));
+    known(&all(0), Ok("(settled 1)\n(unit 1 0 0)\n(unit 2 1 4)\n(unit 3 0 0)\n(group 1 1000000 0 0 0 (plan 0 0))\n"));
     known(&all(1), Err((11, 1)));
     known(&all(256_000_000), Err((11, 1)));
     let second = format!("(shut)\n(unit 1 4)\n{}{}", group(2, "2"), group(1, "1"));

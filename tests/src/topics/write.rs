@@ -10,7 +10,7 @@ use crate::cases::jobs::{print_job, sound, MIDDLE, TINY, WIDE};
 use crate::cases::tables::lent;
 use crate::check::{Checks, Topic};
 use crate::independent::reader::{Group, Job};
-use crate::independent::{self, GREATEST_DEVIATION, GREATEST_SHARE, GREATEST_SPREAD, GREATEST_TOTAL};
+use crate::independent::{self, GREATEST_DEVIATION, GREATEST_PAIRS, GREATEST_SHARE, GREATEST_SPREAD, GREATEST_TOTAL};
 use crate::rebuild;
 use danivomel::{Limit, Limits, Range, Refusal, WRITTEN_BYTES};
 
@@ -93,8 +93,10 @@ fn edges(topic: &mut Topic, write: Write) {
     for (total, dev, spread) in
         [("0", "0", "0"), ("256000000", "100000000000", "100000000000000000"), ("9", "any", "any")]
     {
-        let text = format!("(unit 9 10)\n(group {total} (dev {dev}) (spread {spread}) (of 1))\n");
-        check_room(topic, write, text.as_bytes(), &table_of(&[(9, 10)]), text.as_bytes());
+        for pairs in ["", " (pairs any)", " (pairs 0)", " (pairs 7)", " (pairs 100000000000)"] {
+            let text = format!("(unit 9 10)\n(group {total} (dev {dev}) (spread {spread}){pairs} (of 1))\n");
+            check_room(topic, write, text.as_bytes(), &table_of(&[(9, 10)]), text.as_bytes());
+        }
     }
     let text = "(unit 0 9)\n".repeat(256).into_bytes();
     let sound = with_spare(&[(7, 7); 256]);
@@ -140,8 +142,12 @@ fn random_jobs(topic: &mut Topic, write: Write, judge: Judge, rounds: usize) {
 
 /// A job with one share for every unit and as many groups, members and digits as there can be, but for the total's.
 pub fn long_job(share: u64, total: u64) -> Job {
-    let limits = Limits { deviation: Limit::AtMost(GREATEST_DEVIATION), spread: Limit::AtMost(GREATEST_SPREAD) };
-    let group = |first: usize| Group { total, limits, members: (first..first + 64).collect() };
+    let limits = Limits {
+        deviation: Limit::AtMost(GREATEST_DEVIATION),
+        spread: Limit::AtMost(GREATEST_SPREAD),
+        pairs: Limit::AtMost(GREATEST_PAIRS),
+    };
+    let group = |first: usize| Group { total, limits, says_pairs: true, members: (first..first + 64).collect() };
     Job {
         lows: vec![share; 256],
         highs: vec![share; 256],
@@ -150,10 +156,10 @@ pub fn long_job(share: u64, total: u64) -> Job {
     }
 }
 
-/// 256 unit lines of 23 bytes, 64 group lines of 70 and 4,096 members of 4: no text is longer.
+/// 256 unit lines of 23 bytes, 64 group lines of 91 and 4,096 members of 4: no text is longer.
 fn longest(topic: &mut Topic, write: Write) {
     let [short, long] = [0, GREATEST_SHARE].map(|share| print_job(&long_job(share, GREATEST_TOTAL)));
-    topic.same(&"the longest text", "bytes", long.len(), 256 * 23 + 64 * 70 + 4_096 * 4);
+    topic.same(&"the longest text", "bytes", long.len(), 256 * 23 + 64 * 91 + 4_096 * 4);
     topic.same(&"the longest text", "bytes by the package", long.len(), WRITTEN_BYTES);
     let mut table = table_of(&[(GREATEST_SHARE, GREATEST_SHARE); 256]);
     for text in [&short, &long] {
