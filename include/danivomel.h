@@ -238,7 +238,7 @@ danivomel_reported danivomel_report(
     uint64_t *scratch, size_t scratch_count,
     uint8_t *buffer, size_t buffer_count);
 
-/* What writing answers. On every refusal (1 to 10, 13 to 15) the length is 0. On success it is 7 to 26,752. */
+/* What writing answers. On every refusal (1 to 10, 13 to 15) the length is 0. On success it is 7 to 28,096. */
 typedef struct {
     danivomel_refusal refusal;
     size_t length;
@@ -250,7 +250,7 @@ typedef struct {
  * ranges; a text with the table that its reading filled is written as the same bytes; and a settled job that was written
  * settles in one pass. The table is not changed, and no scratch is needed.
  * Refuses, in this order: as reading, table included; 4, then 7 for the ranges of the table, as settling does; 1 for a
- * buffer with fewer bytes than are to be written. 26,752 bytes are always enough.
+ * buffer with fewer bytes than are to be written. 28,096 bytes are always enough.
  */
 danivomel_written danivomel_write(
     const uint8_t *text, size_t text_count,

@@ -48,7 +48,7 @@ pub const SCRATCH_PER_UNIT: usize = 8;
 pub const BUFFER_BYTES: usize = 65_536;
 
 /// The most bytes that are ever written of a job as a job text: a buffer of so many takes every job.
-pub const WRITTEN_BYTES: usize = 26_752;
+pub const WRITTEN_BYTES: usize = 28_096;
 
 /// Runs the examples of README.md.
 #[cfg(doctest)]
