@@ -162,7 +162,7 @@ pub(crate) fn noted(
     was: Shared,
     found: Bracket,
 ) -> Shared
-    requires { ⌜ (5 * last + 5 ≤ length (now table)) × (last ≤ 512) ⌝ }
+    requires { ⌜ (7 * last + 7 ≤ length (now table)) × (last ≤ 512) ⌝ }
     ensures { λ r. ⌜ Noted (now (table .entry)) last low high was found r ⌝ }
 {
     let top = greater(found.near, found.far);

@@ -111,7 +111,7 @@ fn narrow_handful(lows: &mut [u64], highs: &mut [u64], question: Question) -> bo
 {
     let mut starts = [0u64; 4];
     let mut stops = [0u64; 4];
-    let mut table = [0u64; 45];
+    let mut table = [0u64; 63];
     narrow_within(lows, highs, question, &mut starts, &mut stops, &mut table)
 }
 
@@ -123,7 +123,7 @@ fn narrow_few(lows: &mut [u64], highs: &mut [u64], question: Question) -> bool
 {
     let mut starts = [0u64; 8];
     let mut stops = [0u64; 8];
-    let mut table = [0u64; 85];
+    let mut table = [0u64; 119];
     narrow_within(lows, highs, question, &mut starts, &mut stops, &mut table)
 }
 
@@ -135,7 +135,7 @@ fn narrow_several(lows: &mut [u64], highs: &mut [u64], question: Question) -> bo
 {
     let mut starts = [0u64; 16];
     let mut stops = [0u64; 16];
-    let mut table = [0u64; 165];
+    let mut table = [0u64; 231];
     narrow_within(lows, highs, question, &mut starts, &mut stops, &mut table)
 }
 
@@ -147,7 +147,7 @@ fn narrow_many(lows: &mut [u64], highs: &mut [u64], question: Question) -> bool
 {
     let mut starts = [0u64; 64];
     let mut stops = [0u64; 64];
-    let mut table = [0u64; 645];
+    let mut table = [0u64; 903];
     narrow_within(lows, highs, question, &mut starts, &mut stops, &mut table)
 }
 
@@ -158,7 +158,7 @@ fn narrow_most(lows: &mut [u64], highs: &mut [u64], question: Question) -> bool
 {
     let mut starts = [0u64; MOST_UNITS];
     let mut stops = [0u64; MOST_UNITS];
-    let mut table = [0u64; 2565];
+    let mut table = [0u64; 3591];
     narrow_within(lows, highs, question, &mut starts, &mut stops, &mut table)
 }
 

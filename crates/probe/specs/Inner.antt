@@ -1,6 +1,8 @@
 -- What only inner contracts use, a file for each topic.
+pub mod Distances
 pub mod Figures
 pub mod Kept
+pub mod Pairs
 pub mod Pinned
 pub mod Probes
 pub mod Rows

@@ -1,6 +1,9 @@
 // Probes of pinned values on the breakpoint table of a group.
 use crate::figures::pinned_squares;
 use crate::newton::newton_step;
+use crate::pairs::Spot;
+use crate::pairs::pair_step;
+use crate::pairs::pinned_pairs;
 use crate::pinned::Trial;
 use crate::pinned::last_within;
 use crate::pinned::pinned_total;
@@ -8,6 +11,7 @@ use crate::pinned::reach_from;
 use crate::rows::read_row;
 use crate::sides::past;
 use crate::sides::pinned_half;
+use crate::terms::MOST_PAIRS;
 use crate::terms::Terms;
 use model::Question;
 use model::Share;
@@ -15,7 +19,12 @@ use model::levels::clamp;
 use model::numbers::apart;
 ghost use mathlib.Core.Path.{_≡_};
 ghost use Rattle.probe.specs.Inner.Probes.{LastWithin};
-ghost use Rattle.probe.specs.Inner.Verdicts.{Lookable, Triable, PinnedFigures, withinTerms, Decides, LevelledOn};
+ghost use Rattle.model.specs.Plans.{hasPlan};
+ghost use Rattle.model.specs.declared.Limits.{Limits};
+ghost use Rattle.probe.specs.Inner.Distances.{PairLookable};
+ghost use Rattle.probe.specs.Inner.Pairs.{SpotBelow, Spotted};
+ghost use Rattle.probe.specs.Inner.Terms.{LimitTerms};
+ghost use Rattle.probe.specs.Inner.Verdicts.{Lookable, Triable, PinnedFigures, PairsTold, withinTerms, Decides, LevelledOn};
 
 // What a look at a pinned group finds: half of the deviation and the sum of squares of its levelled shares, and the level
 // of the others there with the copies left over.
@@ -32,6 +41,7 @@ fn look(lows: &[u64], highs: &[u64], table: &[u64], terms: Terms, trial: Trial, 
     requires { ⌜ Lookable (now lows) (now highs) (now table) terms (trial .low) (trial .high) (trial .value) ⌝ }
     requires { ⌜ LastWithin (now table) (terms .last) (trial .low) (trial .high) (trial .value) (terms .total) k ⌝ }
     ensures { λ r. ⌜ PinnedFigures (now (lows .entry)) (now (highs .entry)) terms (trial .low) (trial .high) (trial .value) r ⌝ }
+    ensures { λ r. ⌜ SpotBelow (now (table .entry)) (terms .last) k (r .level) (r .over) ⌝ }
 {
     let row = read_row(table, k);
     let copies = terms.total - pinned_total(row, trial.low, trial.high, trial.value);
@@ -47,7 +57,7 @@ fn look(lows: &[u64], highs: &[u64], table: &[u64], terms: Terms, trial: Trial, 
     }
 }
 
-// Whether the limits allow what was found.
+// Whether the limits of deviation and spread allow what was found.
 fn within(terms: Terms, pinned: Pinned) -> bool
     ensures { λ r. ⌜ r ≡ withinTerms terms pinned ⌝ }
 {
@@ -65,8 +75,32 @@ pub struct Tried {
     pub row: usize,
 }
 
+// Tries a value that the other limits allow, under a pairs limit.
+fn try_pairs(lows: &[u64], highs: &[u64], table: &[u64], terms: Terms, trial: Trial, spot: Spot) -> Tried
+    requires { ⌜ PairLookable (now lows) (now highs) (now table) terms ⌝ }
+    requires { ⌜ Spotted (now lows) (now highs) (now table) terms (trial .low) (trial .high) (trial .value) spot ⌝ }
+    ensures { λ r. ⌜ PairsTold (now (lows .entry)) (now (highs .entry)) terms (trial .low) (trial .high) (trial .value) (spot .level) (spot .over) (r .taken) ⌝ }
+    ensures { λ r. ⌜ r .row ≡ spot .row ⌝ }
+{
+    let pairs = pinned_pairs(lows, highs, table, terms, trial, spot);
+    if pairs <= terms.pairs {
+        return Tried {
+            taken: true,
+            inward: Share::GREATEST,
+            row: spot.row,
+        };
+    }
+    let inward = pair_step(table, terms.last, trial, spot, pairs - terms.pairs);
+    Tried {
+        taken: false,
+        inward,
+        row: spot.row,
+    }
+}
+
 // Tries a value. Newton's steps do not pass the last value that is taken, so that after a value with a plan the one next to
-// it comes: as far inward as can be. The question is there for the contract: the terms are of it.
+// it comes: as far inward as can be. Pairs are asked for last, where the other figures are within their limits. The question is
+// there for the contract: the terms are of it.
 pub fn try_value(
     lows: &[u64],
     highs: &[u64],
@@ -81,22 +115,30 @@ pub fn try_value(
 {
     let row = last_within(table, terms.last, trial, terms.total);
     let pinned = look(lows, highs, table, terms, trial, row);
-    if within(terms, pinned) {
+    if !within(terms, pinned) {
+        let squares = past(pinned.squares, terms.squares);
+        let half = past(pinned.half, terms.half);
+        let distance = apart(trial.value, pinned.level);
+        let inward = newton_step(squares, half, distance, terms.count);
+        return Tried {
+            taken: false,
+            inward,
+            row,
+        };
+    }
+    if MOST_PAIRS <= terms.pairs {
         return Tried {
             taken: true,
             inward: Share::GREATEST,
             row,
         };
     }
-    let squares = past(pinned.squares, terms.squares);
-    let half = past(pinned.half, terms.half);
-    let distance = apart(trial.value, pinned.level);
-    let inward = newton_step(squares, half, distance, terms.count);
-    Tried {
-        taken: false,
-        inward,
+    let spot = Spot {
         row,
-    }
+        level: pinned.level,
+        over: pinned.over,
+    };
+    try_pairs(lows, highs, table, terms, trial, spot)
 }
 
 // A level with the copies left over there, the row below it, and whether the limits allow the shares there.
@@ -105,6 +147,33 @@ pub struct Levelled {
     pub level: u64,
     pub over: u64,
     pub planned: bool,
+}
+
+// Whether the limits allow what was found, pairs last.
+fn meets_all(lows: &[u64], highs: &[u64], table: &[u64], terms: Terms, pinned: Pinned, row: usize) -> bool
+    requires { ⌜ Lookable (now lows) (now highs) (now table) terms 0 0 0 ⌝ }
+    requires { ⌜ PinnedFigures (now lows) (now highs) terms 0 0 0 pinned ⌝ }
+    requires { ⌜ SpotBelow (now table) (terms .last) row (pinned .level) (pinned .over) ⌝ }
+    ensures { λ r. ⌜ ((limits : Limits) → LimitTerms limits terms → r ≡ hasPlan (now (lows .entry)) (now (highs .entry)) (terms .total) limits) ⌝ }
+{
+    if !within(terms, pinned) {
+        return false;
+    }
+    if MOST_PAIRS <= terms.pairs {
+        return true;
+    }
+    let whole = Trial {
+        low: 0,
+        high: 0,
+        value: 0,
+        row,
+    };
+    let spot = Spot {
+        row,
+        level: pinned.level,
+        over: pinned.over,
+    };
+    pinned_pairs(lows, highs, table, terms, whole, spot) <= terms.pairs
 }
 
 // The level at which the group has its total, and whether it has a plan: the group itself is one with 0 pinned to 0.
@@ -120,7 +189,7 @@ pub fn level_on(lows: &[u64], highs: &[u64], table: &[u64], terms: Terms) -> Lev
     };
     let row = last_within(table, terms.last, whole, terms.total);
     let pinned = look(lows, highs, table, terms, whole, row);
-    let planned = within(terms, pinned);
+    let planned = meets_all(lows, highs, table, terms, pinned, row);
     Levelled {
         row,
         level: pinned.level,

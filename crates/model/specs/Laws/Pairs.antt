@@ -18,7 +18,7 @@ unfoldable pub distances : List ℕ → List ℕ → ℕ
 distances xs ys = sumOf (λ y. sumOf (apart y) xs) ys
 
 -- a sum of sums of two functions
-sumOf-plus : (f g : ℕ → ℕ) (xs : List ℕ) → sumOf (λ x. f x + g x) xs ≡ sumOf f xs + sumOf g xs
+pub sumOf-plus : (f g : ℕ → ℕ) (xs : List ℕ) → sumOf (λ x. f x + g x) xs ≡ sumOf f xs + sumOf g xs
 unfolding sumOf
 sumOf-plus f g [] = refl
 sumOf-plus f g (x ∷ xs) = omega (arith, sumOf-plus f g xs)
@@ -30,13 +30,13 @@ sumOf-none [] = refl
 sumOf-none (x ∷ xs) = omega (arith, sumOf-none xs)
 
 -- sums of the same parts are the same
-sumOf-same : (f g : ℕ → ℕ) → ((x : ℕ) → f x ≡ g x) → (xs : List ℕ) → sumOf f xs ≡ sumOf g xs
+pub sumOf-same : (f g : ℕ → ℕ) → ((x : ℕ) → f x ≡ g x) → (xs : List ℕ) → sumOf f xs ≡ sumOf g xs
 unfolding sumOf
 sumOf-same f g same [] = refl
 sumOf-same f g same (x ∷ xs) = omega (arith, same x, sumOf-same f g same xs)
 
 -- from either side, a distance is the same
-apart-swap : (x y : ℕ) → apart x y ≡ apart y x
+pub apart-swap : (x y : ℕ) → apart x y ≡ apart y x
 apart-swap x y = omega arith
 
 -- one share more in the list that distances are taken from

@@ -19,13 +19,13 @@ pub record Tabled (lows highs : List ℕ) (total : ℕ) (table : List ℕ) : Typ
 pub record TableLists (n : ℕ) (starts stops table : List ℕ) : Type 0 where
   pub sizeStarts : length starts ≡ n
   pub sizeStops : length stops ≡ n
-  pub sizeTable : 5 * (2 * n) + 5 ≤ length table
+  pub sizeTable : 7 * (2 * n) + 7 ≤ length table
 
 -- arrays with such room for every group of n members that the checks let pass
 pub record TableRoom (n : ℕ) (starts stops table : List ℕ) : Type 0 where
   pub sizeStarts : n ≤ mostUnits → n ≤ length starts
   pub sizeStops : n ≤ mostUnits → n ≤ length stops
-  pub sizeTable : n ≤ mostUnits → 5 * (2 * n) + 5 ≤ length table
+  pub sizeTable : n ≤ mostUnits → 7 * (2 * n) + 7 ≤ length table
 
 -- a group of sound ranges that has a plan
 pub record HasPlan (lows highs : List ℕ) (total : ℕ) (limits : Limits) : Type 0 where

@@ -1,16 +1,16 @@
--- The members of a group whose range has several values: the others' shares move at no level. Assumes nothing.
-use Prim.Native.Nat.{ℕ, _≤_, _<_}
+-- The members of a group that rows are made for. Those whose range has one value can be left out: their shares move at no level. Assumes nothing.
+use Prim.Native.Nat.{ℕ, _≤_}
 use mathlib.Core.Bool.{true, false}
 use mathlib.Core.List.{List, [], _∷_}
 use lib.Dec.{ltb}
 
--- the lows and the highs of the members with several values, in the group's order
+-- the lows and the highs of the members with several values, and of others, in the group's order
 pub data Kept : List ℕ → List ℕ → List ℕ → List ℕ → Type 0 where
   none : Kept [] [] [] []
-  wide : {l h : ℕ} {ls hs keptLows keptHighs : List ℕ} → l < h → Kept ls hs keptLows keptHighs → Kept (l ∷ ls) (h ∷ hs) (l ∷ keptLows) (h ∷ keptHighs)
+  along : {l h : ℕ} {ls hs keptLows keptHighs : List ℕ} → Kept ls hs keptLows keptHighs → Kept (l ∷ ls) (h ∷ hs) (l ∷ keptLows) (h ∷ keptHighs)
   single : {l h : ℕ} {ls hs keptLows keptHighs : List ℕ} → h ≤ l → Kept ls hs keptLows keptHighs → Kept (l ∷ ls) (h ∷ hs) keptLows keptHighs
 
--- what those members have of a list of one number a member
+-- what the members with several values have of a list of one number a member
 unfoldable pub several : List ℕ → List ℕ → List ℕ → List ℕ
 several [] hs xs = []
 several (l ∷ ls) [] xs = []

@@ -22,7 +22,7 @@ pub record Pinnable (row : Row) (low high v : ℕ) : Type 0 where
 -- and so at every row of a table
 pub record Probeable (table : List ℕ) (last low high v : ℕ) : Type 0 where
   pub few : last ≤ 512
-  pub room : 5 * last + 5 ≤ length table
+  pub room : 7 * last + 7 ≤ length table
   pub rows : (k : ℕ) → k ≤ last → Pinnable (rowAt table k) low high v
 
 -- a row with T at most the total, whose next row has at least the total

@@ -1,9 +1,11 @@
 -- The rows that are written one after another, on the way up the rising bounds. Assumes nothing.
-use Prim.Native.Nat.{ℕ, suc, _+_}
+use Prim.Native.Nat.{ℕ, suc, _+_, _<_}
 use mathlib.Core.List.{List}
 use mathlib.Core.Path.{_≡_}
 use lib.ListN.{length}
+use Rattle.model.specs.Shares.{greatestShare}
 use Rattle.probe.specs.declared.rows.Row.{Row}
+use Rattle.probe.specs.Inner.Rows.{rowAt, lastRow}
 use Rattle.probe.specs.Inner.Kept.{Kept}
 use Rattle.model.specs.Inner.Orders.{Ordered}
 use Rattle.probe.specs.Inner.Spans.{Parted}
@@ -26,8 +28,14 @@ pub record RowReached (lows highs starts stops : List ℕ) (row : Row) : Type 0 
 -- the row for the next bound
 pub record NextRow (lows highs starts stops : List ℕ) (row after : Row) : Type 0 where
   pub span : SpanTo lows highs row (after .mark)
+  pub passed : Parted (row .mark) (after .mark) (row .lows) starts
   pub walk : RowReached lows highs starts stops after
   pub counted : after .lows + after .highs ≡ suc (row .lows + row .highs)
+
+-- each row counts the lows up to its level, and none follows before the next row's
+pub record Passed (starts table : List ℕ) : Type 0 where
+  pub up : (k : ℕ) → k < lastRow table → Parted (rowAt table k .mark) (rowAt table (suc k) .mark) (rowAt table k .lows) starts
+  pub last : Parted (rowAt table (lastRow table) .mark) (suc greatestShare) (rowAt table (lastRow table) .lows) starts
 
 -- the row for level 0
 pub record Begun (lows highs : List ℕ) (row : Row) : Type 0 where

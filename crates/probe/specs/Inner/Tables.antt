@@ -37,7 +37,7 @@ SpanTo lows highs row w = Span lows highs (row .mark) w (row .lows) (row .highs)
 
 -- the breakpoint table of a group: a row for level 0 and one for each bound of the members with several values, rising
 pub record Breakpoints (lows highs table : List ℕ) : Type 0 where
-  pub room : 5 * lastRow table + 5 ≤ length table
+  pub room : 7 * lastRow table + 7 ≤ length table
   pub few : lastRow table ≤ 2 * length lows
   pub first : rowAt table 0 .mark ≡ 0
   pub sums : (k : ℕ) → k ≤ lastRow table → Sums lows highs (rowAt table k)

@@ -1,17 +1,18 @@
 -- What is asked of a probe, and what it finds of the pinned group. Assumes nothing.
-use Prim.Native.Nat.{ℕ, _*_, _≤_}
+use Prim.Native.Nat.{ℕ, _*_, _≤_, _<_}
 use mathlib.Core.Bool.{Bool, _&&_}
 use mathlib.Core.List.{List}
 use mathlib.Core.Path.{_≡_}
 use lib.Dec.{leb}
 use Rattle.model.specs.Shares.{sumOf}
-use Rattle.model.specs.Figures.{deviation}
+use Rattle.model.specs.Figures.{deviation, pairs}
 use Rattle.model.specs.Levels.{topped}
 use Rattle.model.specs.Plans.{hasPlan}
 use Rattle.model.specs.declared.Limits.{Limits}
 use Rattle.probe.specs.declared.probing.Levelled.{Levelled}
 use Rattle.probe.specs.declared.probing.Pinned.{Pinned}
 use Rattle.probe.specs.declared.terms.Terms.{Terms}
+use Rattle.probe.specs.Inner.Distances.{mostPairs, Paired}
 use Rattle.probe.specs.Inner.Tables.{SoundWithTotal, Breakpoints, square}
 use Rattle.probe.specs.Inner.Terms.{GroupTerms, LimitTerms, Termed}
 use Rattle.probe.specs.Inner.Sides.{greatestHalf}
@@ -31,6 +32,7 @@ pub record Lookable (lows highs table : List ℕ) (terms : Terms) (low high v : 
   pub summed : GroupTerms lows highs table terms
   pub asked : Asked lows highs low high v
   pub reach : InReach table (terms .last) low high v (terms .total)
+  pub paired : terms .pairs < mostPairs → Paired lows highs table
 
 -- and tried, within limits
 pub record Triable (lows highs table : List ℕ) (total : ℕ) (limits : Limits) (terms : Terms) (low high v : ℕ) : Type 0 where
@@ -39,6 +41,7 @@ pub record Triable (lows highs table : List ℕ) (total : ℕ) (limits : Limits)
   pub termed : Termed lows highs table total limits terms
   pub asked : Asked lows highs low high v
   pub reach : InReach table (terms .last) low high v total
+  pub paired : terms .pairs < mostPairs → Paired lows highs table
 
 -- the level that the total reaches in some ranges, half of the deviation and the sum of squares of the shares there
 pub record Figured (lows highs : List ℕ) (terms : Terms) (pinned : Pinned) : Type 0 where
@@ -53,7 +56,7 @@ pub record Figured (lows highs : List ℕ) (terms : Terms) (pinned : Pinned) : T
 pub record PinnedFigures (lows highs : List ℕ) (terms : Terms) (low high v : ℕ) (pinned : Pinned) : Type 0 where
   pub is : {lows′ highs′ : List ℕ} → Pin lows highs low high v lows′ highs′ → Figured lows′ highs′ terms pinned
 
--- both figures are within the terms
+-- deviation and spread are within the terms
 abbrev pub withinTerms : Terms → Pinned → Bool
 withinTerms terms pinned = leb (pinned .half) (terms .half) && leb (pinned .squares) (terms .squares)
 
@@ -68,3 +71,7 @@ pub record LevelledOn (lows highs table : List ℕ) (terms : Terms) (at : Levell
   pub moving : ℕ
   pub reached : Reached lows highs (terms .total) mark moving (at .level) (at .over)
   pub decides : {limits : Limits} → LimitTerms limits terms → at .planned ≡ hasPlan lows highs (terms .total) limits
+
+-- whether the pair differences at the level reached are within the terms, for all ranges with the value
+pub record PairsTold (lows highs : List ℕ) (terms : Terms) (low high v w over : ℕ) (met : Bool) : Type 0 where
+  pub is : {lows′ highs′ : List ℕ} → Pin lows highs low high v lows′ highs′ → met ≡ leb (pairs (topped lows′ highs′ w over)) (terms .pairs)

@@ -11,6 +11,7 @@ use Rattle.model.specs.Shares.{greatestShare, sumOf}
 use Rattle.model.specs.Figures.{met, apart, figuresOf, deviation, spread}
 use Rattle.model.specs.Levels.{clamp, clamped, growth, topped, levelled}
 use Rattle.model.specs.Plans.{hasPlan}
+use Rattle.model.specs.Laws.Pairs.{pairs-same}
 use Rattle.model.specs.Laws.Level.{totalAt-mono, totalAt-greatest}
 use Rattle.model.specs.declared.Limits.{Limits}
 use Rattle.probe.specs.declared.rows.Row.{Row}
@@ -49,7 +50,7 @@ division row low high left more =
 -- shares of which every sum is the same have the same figures
 sums-figures : (n total : ℕ) (xs ys : List ℕ) → ((f : ℕ → ℕ) → sumOf f xs ≡ sumOf f ys) → figuresOf n total xs ≡ figuresOf n total ys
 unfolding deviation spread
-sums-figures n total xs ys same = rw (same (λ x. apart (n * x) total), same (λ x. x * x))
+sums-figures n total xs ys same = rw (same (λ x. apart (n * x) total), same (λ x. x * x), pairs-same xs ys same)
 
 -- a range that reaches from a row's level to the next one's
 pub record Covers (table : List ℕ) (k low high : ℕ) : Type 0 where

@@ -1,4 +1,4 @@
--- A sum over the shares at a level is one over the members with several values, and one that no level changes. Assumes nothing.
+-- A sum over the shares at a level is one over the members kept, and one that no level changes. Assumes nothing.
 use Prim.Native.Nat.{ℕ, zero, suc, _+_, _≤_, _<_}
 use mathlib.Core.Bool.{Bool, true, false}
 use mathlib.Core.List.{List, [], _∷_, _++_, append-assoc, append-nil}
@@ -19,19 +19,19 @@ use Rattle.probe.specs.Inner.Kept.{Kept, several}
 -- the shares of the members with one value
 fixed : {lows highs keptLows keptHighs : List ℕ} → Kept lows highs keptLows keptHighs → List ℕ
 fixed Kept.none = []
-fixed (Kept.wide more kept) = fixed kept
+fixed (Kept.along kept) = fixed kept
 fixed (Kept.single {l} one kept) = l ∷ fixed kept
 
 -- the kept members have ranges, and are no more than all
 pub kept-ranges : {lows highs keptLows keptHighs : List ℕ} → Ranges lows highs → Kept lows highs keptLows keptHighs → Ranges keptLows keptHighs
 kept-ranges Ranges.none Kept.none = Ranges.none
-kept-ranges (Ranges.also p q r) (Kept.wide more kept) = Ranges.also p q (kept-ranges r kept)
+kept-ranges (Ranges.also p q r) (Kept.along kept) = Ranges.also p q (kept-ranges r kept)
 kept-ranges (Ranges.also p q r) (Kept.single one kept) = kept-ranges r kept
 
 pub kept-few : {lows highs keptLows keptHighs : List ℕ} → Kept lows highs keptLows keptHighs
     → (length keptLows ≤ length lows) × (length keptHighs ≡ length keptLows)
 kept-few Kept.none = (omega arith, refl)
-kept-few (Kept.wide more kept) = let (few, same) = kept-few kept in (omega arith, omega arith)
+kept-few (Kept.along kept) = let (few, same) = kept-few kept in (omega arith, omega arith)
 kept-few (Kept.single one kept) = let (few, same) = kept-few kept in (omega arith, same)
 
 -- at every level, the others' parts are the same
@@ -39,7 +39,7 @@ kept-sum : (f : ℕ → ℕ) {lows highs keptLows keptHighs : List ℕ} → Rang
     → sumOf f (clamped lows highs w) ≡ sumOf f (clamped keptLows keptHighs w) + sumOf f (fixed kept)
 unfolding sumOf clamped fixed
 kept-sum f Ranges.none Kept.none w = refl
-kept-sum f (Ranges.also p q r) (Kept.wide more kept) w = omega (arith, kept-sum f r kept w)
+kept-sum f (Ranges.also p q r) (Kept.along kept) w = omega (arith, kept-sum f r kept w)
 kept-sum f (Ranges.also {l} {h} p q r) (Kept.single one kept) w =
     let at : clamp l h w ≡ l = omega arith in
     rw at (omega (arith, kept-sum f r kept w))
@@ -48,8 +48,8 @@ kept-sum f (Ranges.also {l} {h} p q r) (Kept.single one kept) w =
 kept-there : {lows highs keptLows keptHighs : List ℕ} → Kept lows highs keptLows keptHighs → (i : ℕ) → i < length lows → getD lows i 0 < getD highs i 0
     → (j : ℕ) × (j < length keptLows) × (getD keptLows j 0 ≡ getD lows i 0) × (getD keptHighs j 0 ≡ getD highs i 0)
 kept-there Kept.none i below wide = absurd (omega arith)
-kept-there (Kept.wide more kept) zero below wide = (0, omega arith, refl, refl)
-kept-there (Kept.wide more kept) (suc i) below wide =
+kept-there (Kept.along kept) zero below wide = (0, omega arith, refl, refl)
+kept-there (Kept.along kept) (suc i) below wide =
     let (j, inside, low, high) = kept-there kept i (le-of-suc-le-suc below) wide in (suc j, omega arith, low, high)
 kept-there (Kept.single one kept) zero below wide = absurd (omega arith)
 kept-there (Kept.single one kept) (suc i) below wide = kept-there kept i (le-of-suc-le-suc below) wide
@@ -71,9 +71,14 @@ unfolding several
 kept-several Ranges.none = Kept.none
 kept-several (Ranges.also {l} {h} p q r) =
     elim (decLt l h) [
-      | yes more ↦ rw (lt-ltb l h more, several) (Kept.wide more (kept-several r))
+      | yes more ↦ rw (lt-ltb l h more, several) (Kept.along (kept-several r))
       | no one ↦ rw (le-ltb l h (omega arith), several) (Kept.single {l = l} {h = h} (omega arith) (kept-several r))
     ]
+
+-- all members can be kept
+pub kept-all : {lows highs : List ℕ} → Ranges lows highs → Kept lows highs lows highs
+kept-all Ranges.none = Kept.none
+kept-all (Ranges.also p q r) = Kept.along (kept-all r)
 
 -- the numbers of the first i members, as far as these are kept, are at the front of a list
 pub record Sifted (lows highs xs numbers : List ℕ) (count i : ℕ) : Type 0 where

@@ -8,11 +8,12 @@ use native.Mathlib.Omega.{arith, by-contra}
 use lib.ListN.{length, getD, set, length-set}
 use borrow.Author.Tests.{le-leb, lt-leb, lt-ltb, le-ltb}
 use Rattle.model.specs.Shares.{Ranges, Within, greatestShare, sum, sumOf}
-use Rattle.model.specs.Figures.{deviation, spread, figuresOf}
+use Rattle.model.specs.Figures.{deviation, spread, pairs, figuresOf}
 use Rattle.model.specs.Levels.{clamp, clamped, totalAt, growth, topped, levelled}
 use Rattle.model.specs.Laws.Least.{least}
 use Rattle.model.specs.Laws.Lists.{ranges-at, ranges-length, sum-sumOf}
 use Rattle.model.specs.Laws.Levelled.{topped-between, topped-within, topped-near, topped-adds, near-even, levelled-within, levelled-adds, shares-exist}
+use Rattle.model.specs.Laws.Pairs.{pairs-schur}
 use Rattle.model.specs.Laws.Plans.{levelled-least}
 use Rattle.model.specs.Laws.Pinned.{pinned-ranges}
 use Rattle.model.specs.Transfers.{SchurConvex}
@@ -107,6 +108,16 @@ module _ (lows highs : List ℕ) (total m w a b : ℕ) (rises : m ≤ w) (more :
       let less : a ≤ b = omega arith in
       omega (arith, total-even w rises (omega arith), ap (λ (t : ℕ). a * t) e, ap (λ (t : ℕ). b * t) e, mul-le-mul-right d less))
 
+  -- what is left, divided among the members that move, leads to the next mark at most, and not to it where copies are left over
+  pub level-inside : (c q r : ℕ) → c + b ≡ a → totalAt lows highs m + (c * q + r) ≡ total → r < c → (m + q ≤ w) × (0 < r → suc (m + q) ≤ w)
+  level-inside c q r moving left under =
+      let (d, e) = le-dest rises in
+      let upper : totalAt lows highs w ≡ totalAt lows highs m + c * d = omega (arith, rw (← moving) at (total-even w rises (omega arith)), ap (λ (t : ℕ). c * t) e, ap (λ (t : ℕ). b * t) e) in
+      let before : suc d ≤ q → c * suc d ≤ c * q = mul-le-mul-left c in
+      let at : d ≤ q → c * d ≤ c * q = mul-le-mul-left c in
+      let inside : q ≤ d = by-contra _ _ (λ past. omega (arith, before (omega arith))) in
+      (omega arith, λ some. let strict : q < d = by-contra _ _ (λ past. omega (arith, at (omega arith))) in omega arith)
+
   -- between two marks, the total is reached by dividing what is left among the members that move
   pub reached-between : (c q r : ℕ) → w ≤ greatestShare → c + b ≡ a → totalAt lows highs m + (c * q + r) ≡ total → r < c
       → Reached lows highs total m c (m + q) r
@@ -157,4 +168,4 @@ module _ {lows highs : List ℕ} {total m c w r : ℕ} (ranges : Ranges lows hig
   -- so the same figures
   pub reached-figures : (n : ℕ) → figuresOf n total (levelled lows highs total) ≡ figuresOf n total (topped lows highs w r)
   reached-figures n =
-      rw (reached-figure (deviation n total) (deviation-schur n total), reached-figure (spread n total) (spread-schur n total))
+      rw (reached-figure (deviation n total) (deviation-schur n total), reached-figure (spread n total) (spread-schur n total), reached-figure pairs pairs-schur)

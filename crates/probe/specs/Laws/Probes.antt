@@ -15,8 +15,18 @@ use Rattle.probe.specs.Inner.Spans.{Span}
 use Rattle.probe.specs.Inner.Tables.{SoundWithTotal, Breakpoints, itself}
 use Rattle.probe.specs.Laws.Tables.{small-itself, clamped-small}
 use Rattle.probe.specs.Inner.Pinned.{Pin, Reached}
-use Rattle.probe.specs.Laws.Pinned.{pinned-span, grows, reached-mark, reached-between}
+use Rattle.probe.specs.Inner.Distances.{MarkedBelow}
+use Rattle.probe.specs.Inner.Pairs.{SpotBelow}
+use Rattle.probe.specs.Laws.Pinned.{pinned-span, grows, level-inside, reached-mark, reached-between}
 use Rattle.probe.specs.Inner.Probes.{pinnedTotal, Pinnable, Probeable, LastWithin, Divided}
+
+-- the copies left over at the level are at most as many as the lows passed
+pub divided-few : {row : Row} {low high copies : ℕ} {reach : Reach} → Divided row low high copies reach → row .lows ≤ mostUnits → reach .over ≤ mostUnits
+divided-few {copies = copies} divided few =
+    elim (decLt 0 copies) [
+      | yes some ↦ let (moving, under) = divided .some some in omega arith
+      | no none ↦ let (growing, each, over) = divided .none (omega arith) in omega arith
+    ]
 
 module _ {lows highs table lows′ highs′ : List ℕ} {total low high v : ℕ} (sound : SoundWithTotal lows highs total) (held : Breakpoints lows highs table)
     (pin : Pin lows highs low high v lows′ highs′) where
@@ -83,6 +93,30 @@ module _ {lows highs table lows′ highs′ : List ℕ} {total low high v : ℕ}
           (between .rises) below past (pinned-span pin between) (reach .growing) (reach .each) (reach .over)
           (held .sums (suc k) (follows some) .share) moving (omega (arith, pinned-total k (found .upTo), below, divided .divides)) under)
 
+    -- the level lies below the next row's
+    pub reached-below : (reach : Reach) → Divided row low high left reach → row .lows ≤ mostUnits → SpotBelow table (lastRow table) k (reach .level) (reach .over)
+    reached-below reach divided few =
+        elim (decLt 0 left) [
+          | yes some ↦
+              let (moving, under) = divided .some some in
+              let (upTo, inside) = level-inside lows′ highs′ total (row .mark) (next some .mark) (row .lows) (row .highs + growth low high (row .mark))
+              (between some .rises) (below some) (past some) (pinned-span pin (between some)) (reach .growing) (reach .each) (reach .over) moving
+              (omega (arith, pinned-total k (found .upTo), below some, divided .divides)) under in
+              record {
+                below = record { upTo = found .upTo; from = omega (arith, divided .level); next = λ more. rw (divided .level) upTo };
+                inside = λ over. (follows some, rw (divided .level) (inside over));
+                few = divided-few divided few;
+              }
+          | no none ↦
+              let (growing, each, over) = divided .none (omega arith) in
+              let level : reach .level ≡ row .mark = omega (arith, divided .level) in
+              record {
+                below = record { upTo = found .upTo; from = omega arith; next = λ more. rw level (held .spans k more .rises) };
+                inside = λ over. absurd (omega arith);
+                few = divided-few divided few;
+              }
+        ]
+
     pub reached : (reach : Reach) → Divided row low high left reach
         → Reached lows′ highs′ total (row .mark) (reach .growing) (reach .level) (reach .over)
     reached reach divided =
@@ -94,11 +128,3 @@ module _ {lows highs table lows′ highs′ : List ℕ} {total low high v : ℕ}
               rw (level, growing, over) (reached-mark lows′ highs′ total (row .mark) (held .sums k (found .upTo) .share)
               (omega (arith, pinned-total k (found .upTo), found .holds)))
         ]
-
--- the copies left over at the level are at most as many as the lows passed
-pub divided-few : {row : Row} {low high copies : ℕ} {reach : Reach} → Divided row low high copies reach → row .lows ≤ mostUnits → reach .over ≤ mostUnits
-divided-few {copies = copies} divided few =
-    elim (decLt 0 copies) [
-      | yes some ↦ let (moving, under) = divided .some some in omega arith
-      | no none ↦ let (growing, each, over) = divided .none (omega arith) in omega arith
-    ]

@@ -10,6 +10,7 @@ use Rattle.model.specs.Plans.{taken}
 use Rattle.model.specs.Laws.Tests.{clash}
 use Rattle.model.specs.declared.Limits.{Limits}
 use Rattle.probe.specs.declared.terms.Terms.{Terms}
+use Rattle.probe.specs.Inner.Distances.{mostPairs, Paired}
 use Rattle.probe.specs.Inner.Rows.{rowAt, lastRow}
 use Rattle.probe.specs.Inner.Tables.{SoundWithTotal, Breakpoints}
 use Rattle.probe.specs.Laws.Pinned.{pinned, unpinned}
@@ -35,13 +36,14 @@ module _ {lows highs table : List ℕ} {total : ℕ} (sound : SoundWithTotal low
 
   -- so that it can be looked up
   pub shares-lookable : sum lows ≤ total → total ≤ sum highs → {limits : Limits} {terms : Terms} → Termed lows highs table total limits terms
-      → Lookable lows highs table terms 0 0 0
-  shares-lookable least greatest termed = lookable (record {
+      → (terms .pairs < mostPairs → Paired lows highs table) → Lookable lows highs table terms 0 0 0
+  shares-lookable least greatest termed paired = lookable (record {
     sound = sound;
     held = held;
     termed = termed;
     asked = record { pinnedLows = lows; pinnedHighs = highs; pin = unpinned (sound .ranges) };
     reach = rw (termed .group .ended) (shares-reach least greatest);
+    paired = paired;
   })
 
   module _ (limits : Limits) (i : ℕ) (here : i < length lows) (w : ℕ) (share : w ≤ greatestShare) where

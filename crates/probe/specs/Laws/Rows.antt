@@ -8,14 +8,15 @@ use native.Mathlib.Omega.{arith}
 use lib.ListN.{length, getD, set, length-set}
 use lib.Seq.{getD-set-same, getD-set-other, sets, length-sets}
 use Rattle.probe.specs.declared.rows.Row.{Row}
-use Rattle.probe.specs.Inner.Rows.{rowAt, lastRow, RowWritten}
+use Rattle.probe.specs.declared.rows.PairRow.{PairRow}
+use Rattle.probe.specs.Inner.Rows.{rowAt, pairRowAt, lastRow, RowWritten, PairRowWritten}
 
 -- a table with room for just so many rows after the first
-pub last-row : (table : List ℕ) (last : ℕ) → length table ≡ 5 * last + 5 → lastRow table ≡ last
+pub last-row : (table : List ℕ) (last : ℕ) → length table ≡ 7 * last + 7 → lastRow table ≡ last
 unfolding lastRow
 last-row table last size =
-    let below : length table % 5 < 5 = mod-lt (length table) (omega arith) in
-    omega (arith, div-add-mod (length table) 5)
+    let below : length table % 7 < 7 = mod-lt (length table) (omega arith) in
+    omega (arith, div-add-mod (length table) 7)
 
 -- numbers written from p on leave those at other places
 sets-other : (vs xs : List ℕ) (p q : ℕ) → ((i : ℕ) → i < length vs → q ≢ p + i) → getD (sets xs p vs) q 0 ≡ getD xs q 0
@@ -44,19 +45,41 @@ same-row : (a b : Row) → a .mark ≡ b .mark → a .total ≡ b .total → a .
     → a .lows ≡ b .lows → a .highs ≡ b .highs → a ≡ b
 same-row a b m t s l h = λ i. record { mark = m i; total = t i; squares = s i; lows = l i; highs = h i }
 
+same-pair-row : (a b : PairRow) → a .far ≡ b .far → a .pairs ≡ b .pairs → a ≡ b
+same-pair-row a b f p = λ i. record { far = f i; pairs = p i }
+
 -- a row's numbers written from its place on
-pub row-written : (k : ℕ) (row : Row) (table : List ℕ) → 5 * k + 5 ≤ length table → RowWritten k row table (sets table (5 * k) (numbers row))
+pub row-written : (k : ℕ) (row : Row) (table : List ℕ) → 7 * k + 7 ≤ length table → RowWritten k row table (sets table (7 * k) (numbers row))
 unfolding rowAt
 row-written k row table room =
-    let first : (j : ℕ) → 5 * j + 0 ≡ 5 * j = (λ j. omega arith) in
-    let after : List ℕ = sets table (5 * k) (numbers row) in
-    let at : (i : ℕ) → i < 5 → getD after (5 * k + i) 0 ≡ getD (numbers row) i 0 =
-    (λ i h. sets-at (numbers row) table (5 * k) i h room) in
+    let first : (j : ℕ) → 7 * j + 0 ≡ 7 * j = (λ j. omega arith) in
+    let after : List ℕ = sets table (7 * k) (numbers row) in
+    let at : (i : ℕ) → i < 5 → getD after (7 * k + i) 0 ≡ getD (numbers row) i 0 =
+    (λ i h. sets-at (numbers row) table (7 * k) i h (omega arith)) in
     record {
-      same = length-sets table (5 * k) (numbers row);
+      same = length-sets table (7 * k) (numbers row);
       here = same-row _ _ (rw first at (at 0 (omega arith))) (at 1 (omega arith)) (at 2 (omega arith)) (at 3 (omega arith)) (at 4 (omega arith));
       others = λ j not.
-          let kept : (i : ℕ) → i < 5 → getD after (5 * j + i) 0 ≡ getD table (5 * j + i) 0 =
-          (λ i h. sets-other (numbers row) table (5 * k) (5 * j + i) (λ p q e. not (omega arith))) in
+          let kept : (i : ℕ) → i < 5 → getD after (7 * j + i) 0 ≡ getD table (7 * j + i) 0 =
+          (λ i h. sets-other (numbers row) table (7 * k) (7 * j + i) (λ p q e. not (omega arith))) in
           same-row _ _ (rw first at (kept 0 (omega arith))) (kept 1 (omega arith)) (kept 2 (omega arith)) (kept 3 (omega arith)) (kept 4 (omega arith));
+    }
+
+-- the two numbers behind them written
+pub pair-row-written : (k : ℕ) (row : PairRow) (table : List ℕ) → 7 * k + 7 ≤ length table
+    → PairRowWritten k row table (sets table (7 * k + 5) (row .far ∷ row .pairs ∷ []))
+unfolding rowAt pairRowAt
+pair-row-written k row table room =
+    let after : List ℕ = sets table (7 * k + 5) (row .far ∷ row .pairs ∷ []) in
+    let kept : (q : ℕ) → ((i : ℕ) → i < 2 → q ≢ 7 * k + 5 + i) → getD after q 0 ≡ getD table q 0 =
+    (λ q other. sets-other (row .far ∷ row .pairs ∷ []) table (7 * k + 5) q other) in
+    let at : (i : ℕ) → i < 2 → getD after (7 * k + 5 + i) 0 ≡ getD (row .far ∷ row .pairs ∷ []) i 0 =
+    (λ i h. sets-at (row .far ∷ row .pairs ∷ []) table (7 * k + 5) i h (omega arith)) in
+    let first : 7 * k + 5 + 0 ≡ 7 * k + 5 = omega arith in
+    let second : 7 * k + 5 + 1 ≡ 7 * k + 6 = omega arith in
+    record {
+      same = length-sets table (7 * k + 5) (row .far ∷ row .pairs ∷ []);
+      rows = λ j. same-row _ _ (kept _ (λ i h e. omega arith)) (kept _ (λ i h e. omega arith)) (kept _ (λ i h e. omega arith)) (kept _ (λ i h e. omega arith)) (kept _ (λ i h e. omega arith));
+      here = same-pair-row _ _ (rw first at (at 0 (omega arith))) (rw second at (at 1 (omega arith)));
+      others = λ j not. same-pair-row _ _ (kept _ (λ i h e. not (omega arith))) (kept _ (λ i h e. not (omega arith)));
     }

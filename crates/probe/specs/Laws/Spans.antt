@@ -42,7 +42,7 @@ parted-sum f m w rises (x ∷ xs) (suc a) parted =
     rw (to, from) (omega (arith, parted-sum f m w rises xs a rest))
 
 -- so do they where they are rearranged
-rearranged-sum : {xs ys : List ℕ} {m w a : ℕ} → Rearranged xs ys → Parted m w a xs → m ≤ w → (f : ℕ → ℕ) (v : ℕ) → m ≤ v → v ≤ w
+pub rearranged-sum : {xs ys : List ℕ} {m w a : ℕ} → Rearranged xs ys → Parted m w a xs → m ≤ w → (f : ℕ → ℕ) (v : ℕ) → m ≤ v → v ≤ w
     → sumOf (λ x. f (max x v)) ys + a * f m ≡ sumOf (λ x. f (max x m)) ys + a * f v
 rearranged-sum {xs} {ys} {m} {w} {a} same parted rises f v low high =
     let less : Parted m v a xs = record {

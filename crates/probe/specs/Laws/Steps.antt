@@ -90,6 +90,7 @@ module _ {lows highs starts stops : List ℕ} (sound : SoundRanges lows highs) (
           → NextRow lows highs starts stops row (lowPassed after)
       low-stepped m = record {
         span = rw (m .at) (low-next .0);
+        passed = rw (m .at) (passes-none starts-rise (walk .partedLows) (λ h. le-refl _));
         walk = record {
           sums = still-sums (m .sums) (omega (arith, m .sameLows, bounds-few .0)) (m .sums .fewHighs);
           partedLows = rw (m .at, m .sameLows, add-one) (passed-one starts-rise (walk .partedLows) (first .0));
@@ -111,6 +112,7 @@ module _ {lows highs starts stops : List ℕ} (sound : SoundRanges lows highs) (
           → NextRow lows highs starts stops row (highPassed after)
       high-stepped m = record {
         span = rw (m .at) (high-next .0);
+        passed = rw (m .at) (passes-none starts-rise (walk .partedLows) (first .1));
         walk = record {
           sums = still-sums (m .sums) (m .sums .fewLows) (omega (arith, m .sameHighs, bounds-few));
           partedLows = rw (m .at, m .sameLows) (passed-none starts-rise (walk .partedLows) high-up (first .1));

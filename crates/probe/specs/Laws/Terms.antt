@@ -2,23 +2,28 @@
 use Prim.Native.Nat.{ℕ, _+_, _-_, _*_, _/_, _≤_, _<_}
 use mathlib.Core.List.{List}
 use mathlib.Core.Logic.{_↔_}
-use mathlib.Core.Path.{_≡_, sym, _∙_}
+use mathlib.Core.Bool.{true, false}
+use mathlib.Core.Path.{_≡_, refl, sym, _∙_}
 use native.Mathlib.Decide.{decLe}
 use native.Mathlib.Nat.{mul-le-mul, le-div-iff-mul-le}
 use native.Mathlib.Omega.{arith}
 use lib.Dec.{leb}
 use lib.ListN.{length}
 use borrow.Author.Tests.{le-leb, lt-leb}
+use Rattle.model.specs.Figures.{allows}
 use Rattle.model.specs.Plans.{hasPlan}
 use Rattle.model.specs.Shares.{mostUnits, greatestTotal}
 use Rattle.probe.specs.declared.probing.Levelled.{Levelled}
 use Rattle.probe.specs.declared.terms.Terms.{Terms}
+use Rattle.model.specs.declared.Limit.{Limit}
 use Rattle.model.specs.declared.Limit.the-variants.{Any, AtMost}
 use Rattle.model.specs.declared.Limits.{Limits}
+use Rattle.probe.specs.Inner.Distances.{mostPairs}
+use Rattle.probe.specs.Inner.Pairs.{SpotBelow}
 use Rattle.probe.specs.Inner.Rows.{rowAt, lastRow}
 use Rattle.probe.specs.Inner.Sides.{greatestHalf}
 use Rattle.probe.specs.Inner.Tables.{greatestPart}
-use Rattle.probe.specs.Inner.Terms.{HalfAllowed, SquaresAllowed, Termed}
+use Rattle.probe.specs.Inner.Terms.{HalfAllowed, SquaresAllowed, PairsAllowed, Termed}
 use Rattle.probe.specs.Inner.Pinned.{Reached}
 use Rattle.probe.specs.Inner.Probes.{pinnedTotal, Probeable, InReach, LastWithin, IntoReach}
 use Rattle.probe.specs.Laws.Probes.{probeable}
@@ -62,6 +67,20 @@ module _ (n total : ℕ) where
 pub squares-none : (total most r : ℕ) → mostUnits * greatestPart ≤ r → SquaresAllowed (AtMost most) 0 total r
 squares-none total most r large = record { is = λ q small enough. le-leb q r (omega arith) ∙ sym (le-leb (0 * q - total * total) most (omega arith)) }
 
+-- no pair differences are past the greatest, and else the limit is the term
+pub pairs-any : PairsAllowed Any mostPairs
+pairs-any = record { is = λ p small. le-leb p mostPairs small }
+
+pub pairs-most : (most : ℕ) → PairsAllowed (AtMost most) most
+pairs-most most = record { is = λ p small. refl }
+
+-- a limit that allows the greatest pair differences has a term past them all, and any other has a lesser one
+pub pairs-unlimited : {limit : Limit} {most : ℕ} → PairsAllowed limit most → mostPairs ≤ most → allows limit mostPairs ≡ true
+pairs-unlimited allowed past = sym (allowed .is mostPairs (omega arith)) ∙ le-leb mostPairs _ past
+
+pub pairs-limited : {limit : Limit} {most : ℕ} → PairsAllowed limit most → most < mostPairs → allows limit mostPairs ≡ false
+pairs-limited allowed less = sym (allowed .is mostPairs (omega arith)) ∙ lt-leb mostPairs _ less
+
 module _ {lows highs table : List ℕ} {terms : Terms} {low high v : ℕ} (asked : Lookable lows highs table terms low high v) where
   -- the last row of the terms is that of the table
   pub reach-last : InReach table (lastRow table) low high v (terms .total)
@@ -74,6 +93,9 @@ module _ {lows highs table : List ℕ} {terms : Terms} {low high v : ℕ} (asked
   pub found-last : {k : ℕ} → LastWithin table (terms .last) low high v (terms .total) k → LastWithin table (lastRow table) low high v (terms .total) k
   found-last found = rw (asked .summed .ended) at found
 
+  pub spot-told : {k level over : ℕ} → SpotBelow table (lastRow table) k level over → SpotBelow table (terms .last) k level over
+  spot-told spot = rw (asked .summed .ended) spot
+
 -- what can be tried can be looked up
 pub lookable : {lows highs table : List ℕ} {total : ℕ} {limits : Limits} {terms : Terms} {low high v : ℕ}
     → Triable lows highs table total limits terms low high v → Lookable lows highs table terms low high v
@@ -83,6 +105,7 @@ lookable asked = record {
   summed = asked .termed .group;
   asked = asked .asked;
   reach = rw (asked .termed .totals) (asked .reach);
+  paired = asked .paired;
 }
 
 -- what a search for a row and a move into reach are asked and tell, with the last row and the total that the terms are of

@@ -1,66 +1,18 @@
--- The table has room for two rows a member with several values, and one more. Assumes nothing.
+-- Either table stands at the front of the list. Assumes nothing.
 use borrow.Author.Needs.{needs}
+use borrow.Author.Tests.{not-true}
 use native.Mathlib.Omega.{arith}
+use mathlib.Core.List.{List}
 use mathlib.Core.Path.{_≡_, sym, _∙_}
 use Prim.Native.Nat.{ℕ, _+_, _*_, _≤_}
 use lib.ListN.{length}
 use lib.Seq.{take-at, length-front, length-take-le}
+use Rattle.model.specs.Laws.Tests.{clash}
 use Rattle.probe.proofs.build.build.Statement.{statement}
 use Rattle.probe.proofs.build.build.Tie as tie
 
-gather-requires : tie.Need-gather-requires
-gather-requires c κs = search needs
-
-mul-size : tie.Need-mul-size
-mul-size c = search needs
-
-add-size : tie.Need-add-size
-add-size c = search needs
-
--- what was gathered fits every list
-module _ (c : tie.After-gather) where
-  abbrev start : tie.Start
-  start = c .before .before .before .before .before .before .before .before
-
-  abbrev count : ℕ
-  count = c .gather .result
-
-  for-starts : count ≤ length (c .gather .last .1 .1 .0)
-  for-starts = omega (arith, c .gather .ensures .0, c .gather .kept .1 .1 .0, start .pre .1 .0)
-
-  for-stops : count ≤ length (c .gather .last .1 .1 .1 .0)
-  for-stops = omega (arith, c .gather .ensures .0, c .gather .kept .1 .1 .1 .0, start .pre .1 .1 .0)
-
-  for-table : 10 * count + 5 ≤ length (start .args .table .now)
-  for-table = omega (arith, c .gather .ensures .0, start .pre .1 .1 .1)
-
-slice-relend-prefix-build-on : tie.Need-slice-relend-prefix-build-on
-slice-relend-prefix-build-on c = for-starts (c .before .before .before .before)
-
-slice-aggregate-build-on : tie.Need-slice-aggregate-build-on
-slice-aggregate-build-on c = sym (length-take-le _ _ (for-starts (c .before .before .before .before .before)))
-
-slice-relend-prefix-build-on-2 : tie.Need-slice-relend-prefix-build-on-2
-slice-relend-prefix-build-on-2 c = for-stops (c .before .before .before .before .before)
-
-slice-aggregate-build-on-2 : tie.Need-slice-aggregate-build-on-2
-slice-aggregate-build-on-2 c = sym (length-take-le _ _ (for-stops (c .before .before .before .before .before .before)))
-
-slice-relend-prefix-build-on-3 : tie.Need-slice-relend-prefix-build-on-3
-slice-relend-prefix-build-on-3 c = for-table (c .before .before .before .before .before .before)
-
-slice-aggregate-build-on-3 : tie.Need-slice-aggregate-build-on-3
-slice-aggregate-build-on-3 c = sym (length-take-le _ _ (for-table (c .before .before .before .before .before .before .before)))
-
-build-on-requires : tie.Need-build-on-requires
-build-on-requires c κs =
-    let g = c .before .before .before .before .before .before .before in (
-      start g .pre .0,
-      (
-        g .gather .ensures .1,
-        omega (arith, length-take-le (count g) (g .gather .last .1 .1 .0) (for-starts g), length-take-le (10 * count g + 5) (start g .args .table .now) (for-table g)),
-      ),
-    )
+build-several-requires : tie.Need-build-several-requires
+build-several-requires c κs = search needs
 
 same-length : tie.Need-same-length
 same-length c = search needs
@@ -73,28 +25,72 @@ same-length-3 c = search needs
 
 returns : tie.Need-returns
 returns c =
+    let done = c .before .before .before .before .before .before .build-several .ensures in
+    (done .0, (done .1, λ asked. absurd (clash asked (not-true _ (c .before .before .before .before .before .before .before .before .before .before .if1 .taken)))))
+
+mul-size : tie.Need-mul-size
+mul-size c = search needs
+
+add-size : tie.Need-add-size
+add-size c = search needs
+
+-- the table's part of the list
+module _ (c : tie.Else1) where
+  abbrev start : tie.Start
+  start = c .before .before .before .before .before .before
+
+  abbrev size : ℕ
+  size = 14 * length (start .args .lows .now) + 7
+
+  room : size ≤ length (start .args .table .now)
+  room = omega (arith, start .pre .1 .1 .1)
+
+slice-relend-prefix-build-paired : tie.Need-slice-relend-prefix-build-paired
+slice-relend-prefix-build-paired c = room (c .before .before)
+
+slice-aggregate-build-paired : tie.Need-slice-aggregate-build-paired
+slice-aggregate-build-paired c = sym (length-take-le _ _ (room (c .before .before .before)))
+
+build-paired-requires : tie.Need-build-paired-requires
+build-paired-requires c κs =
+    let e = c .before .before .before in
+    let s = start e in
+    (s .pre .0, (s .pre .1 .0, (s .pre .1 .1 .0, omega (arith, length-take-le (size e) (s .args .table .now) (room e)))))
+
+same-length-4 : tie.Need-same-length-4
+same-length-4 c = search needs
+
+same-length-5 : tie.Need-same-length-5
+same-length-5 c = search needs
+
+same-length-6 : tie.Need-same-length-6
+same-length-6 c = search needs
+
+returns-2 : tie.Need-returns-2
+returns-2 c =
     let call = c .before .before .before .before .before .before in
-    let g = call .before .before .before .before .before .before .before .before in
-    let size = call .build-on .kept .1 .1 .1 .1 .0 in (
-      omega (arith, for-table g, length-front (start g .args .table .now) (call .build-on .last .1 .1 .1 .1 .0) (10 * count g + 5) size),
-      rw (take-at _ _ _ (size ∙ length-take-le _ _ (for-table g))) (call .build-on .ensures),
+    let e = call .before .before .before .before in
+    let same = call .build-paired .kept .1 .1 .1 .1 .0 in
+    let whole = same ∙ length-take-le _ _ (room e) in (
+      omega (arith, room e, length-front (start e .args .table .now) (call .build-paired .last .1 .1 .1 .1 .0) (size e) same),
+      (rw (take-at _ _ _ whole) (call .build-paired .ensures .0), λ asked. rw (take-at _ _ _ whole) (call .build-paired .ensures .1)),
     )
 
 pub build-spec : {M : Type 1} → statement M
 build-spec =
     tie.close
     (tie.spec
-    gather-requires
-    mul-size
-    add-size
-    slice-relend-prefix-build-on
-    slice-aggregate-build-on
-    slice-relend-prefix-build-on-2
-    slice-aggregate-build-on-2
-    slice-relend-prefix-build-on-3
-    slice-aggregate-build-on-3
-    build-on-requires
+    build-several-requires
     same-length
     same-length-2
     same-length-3
-    returns)
+    returns
+    mul-size
+    add-size
+    slice-relend-prefix-build-paired
+    slice-aggregate-build-paired
+    build-paired-requires
+    same-length-4
+    same-length-5
+    same-length-6
+    returns-2)

@@ -21,7 +21,9 @@ add-result c =
     omega (arith, div-le-self (start .args .much - 1) (start .args .each))
 
 returns-2 : tie.Need-returns-2
-returns-2 c = search needs
+returns-2 c =
+    let start = c .before in
+    omega (arith, div-le-self (start .args .much - 1) (start .args .each), c .if1 .left)
 
 pub steps-spec : {M : Type 1} → statement M
 steps-spec = tie.close (tie.spec returns sub-result div-result add-result returns-2)

@@ -12,10 +12,10 @@ use Rattle.probe.specs.Inner.Rows.{rowAt, lastRow}
 use Rattle.probe.specs.Inner.Tables.{Sums}
 use Rattle.probe.specs.Inner.Pinned.{Pin, Reached}
 use Rattle.probe.specs.Inner.Probes.{pinnedTotal, LastWithin, Divided}
-use Rattle.probe.specs.Laws.Probes.{pinnable, growing, reached, divided-few}
+use Rattle.probe.specs.Laws.Probes.{pinnable, growing, reached, divided-few, reached-below}
 use Rattle.probe.specs.Laws.Figures.{summable, moved-squares}
 use Rattle.probe.specs.Laws.Sides.{halving, halved}
-use Rattle.probe.specs.Laws.Terms.{reach-last, found-last}
+use Rattle.probe.specs.Laws.Terms.{reach-last, found-last, spot-told}
 use Rattle.probe.specs.Inner.Verdicts.{Lookable}
 use Rattle.probe.proofs.probing.look.Statement.{statement}
 use Rattle.probe.proofs.probing.look.Tie as tie
@@ -110,7 +110,7 @@ returns c =
     let q = c .before in
     let r = q .before .before in
     let f = from r in
-    record {
+    (record {
       is = λ pin. record {
         mark = _;
         moving = _;
@@ -120,7 +120,8 @@ returns c =
         squares = moved-squares pin (sums f .squares) (divided r) (there r pin)
             (rw (q .before .clamp .ensures, r .before .before .before .read-row .ensures) at (q .pinned-squares .ensures));
       };
-    }
+    }, spot-told (asked f) (reached-below (asked f .sound) (asked f .held) (asked f .asked .pin) (found f) (reach-last (asked f) .greatest) (reach r) (divided r)
+    (omega (arith, sums f .fewLows, asked f .sound .few))))
 
 pub look-spec : {M : Type 1} → statement M
 look-spec =

@@ -1,11 +1,16 @@
 -- What is found is within the terms exactly where the group with a member pinned to the value has a plan. Assumes nothing.
 use borrow.Author.Needs.{needs}
+use borrow.Author.Tests.{not-true, not-false}
 use mathlib.Core.Bool.{Bool}
-use mathlib.Core.Path.{_≡_, sym, _∙_}
+use mathlib.Core.List.{List}
+use mathlib.Core.Path.{_≡_, refl}
+use Prim.Native.Nat.{ℕ}
+use Rattle.model.specs.Plans.{hasPlan}
+use Rattle.probe.specs.Inner.Pinned.{Pin}
 use Rattle.probe.specs.Inner.Probes.{LastWithin}
-use Rattle.probe.specs.Inner.Verdicts.{Decides}
+use Rattle.probe.specs.Inner.Verdicts.{Lookable, Decides}
 use Rattle.probe.specs.Laws.Terms.{lookable, row-findable}
-use Rattle.probe.specs.Laws.Verdicts.{decides}
+use Rattle.probe.specs.Laws.Verdicts.{decides, pairs-unasked, pairs-asked, pair-lookable, spotted, refused-so, met-so, decided-as, found-as}
 use Rattle.probe.proofs.probing.try_value.Statement.{statement}
 use Rattle.probe.proofs.probing.try_value.Tie as tie
 
@@ -18,25 +23,23 @@ look-requires c κs = (lookable (c .before .before .before .before .pre), c .las
 within-requires : tie.Need-within-requires
 within-requires c κs = search needs
 
--- what is answered, with the test that it follows
+-- what is answered
 module _ (c : tie.After-within) where
   abbrev start : tie.Start
   start = c .before .before .before .before .before .before
 
-  is-decided : {taken : Bool} → c .within .result ≡ taken
+  asked : Lookable (start .args .lows .now) (start .args .highs .now) (start .args .table .now) (start .args .terms) (start .args .trial .low) (start .args .trial .high) (start .args .trial .value)
+  asked = lookable (start .pre)
+
+  -- with the test of the two figures, and what pairs say of all ranges with the value
+  is-decided : {taken : Bool} → ((lows′ highs′ : List ℕ) → Pin (start .args .lows .now) (start .args .highs .now) (start .args .trial .low) (start .args .trial .high) (start .args .trial .value) lows′ highs′
+      → taken ≡ hasPlan lows′ highs′ (start .args .terms .total) (start .args .question .limits))
       → Decides (start .args .lows .now) (start .args .highs .now) (start .args .question .total) (start .args .question .limits) (start .args .trial .low) (start .args .trial .high) (start .args .trial .value) taken
-  is-decided told = record {
-    is = λ pin.
-        let found = decides (lookable (start .pre)) (start .pre .termed .allowed) pin (c .before .look .ensures .is pin) in
-        sym told ∙ c .within .ensures ∙ (rw (start .pre .termed .totals) at found);
-  }
+  is-decided told = record { is = λ {lows′} {highs′} pin. decided-as lows′ highs′ (start .args .question .limits) (start .pre .termed .totals) (told lows′ highs′ pin) }
 
   -- and the row found
   is-found : LastWithin (start .args .table .now) (start .args .terms .last) (start .args .trial .low) (start .args .trial .high) (start .args .trial .value) (start .args .question .total) (c .before .before .last-within .result)
   is-found = rw (start .pre .termed .totals) at (c .before .before .last-within .ensures)
-
-returns : tie.Need-returns
-returns c = (is-decided (c .before) (c .if1 .taken), is-found (c .before))
 
 past-requires : tie.Need-past-requires
 past-requires c κs = search needs
@@ -50,12 +53,49 @@ apart-requires c κs = search needs
 newton-step-requires : tie.Need-newton-step-requires
 newton-step-requires c κs = search needs
 
+returns : tie.Need-returns
+returns c =
+    let t = c .before .before .before .before in
+    let w = t .before in
+    let allowed = start w .pre .termed .allowed in
+    (is-decided w (λ lows′ highs′ pin. refused-so _ (w .within .ensures) (not-true _ (t .if1 .taken)) (decides (asked w) allowed pin (w .before .look .ensures .0 .is pin) refl)), is-found w)
+
 returns-2 : tie.Need-returns-2
 returns-2 c =
-    let e = c .before .before .before .before in
-    (is-decided (e .before) (e .if1 .left), is-found (e .before))
+    let e = c .before .before in
+    let w = e .before in
+    let allowed = start w .pre .termed .allowed in
+    let found = w .before .look .ensures .0 in
+    (is-decided w (λ lows′ highs′ pin. met-so _ (w .within .ensures) (not-false _ (e .if1 .left))
+    (decides (asked w) allowed pin (found .is pin) (pairs-unasked (asked w) allowed pin (found .is pin .reached) (c .if2 .taken)))), is-found w)
+
+try-pairs-requires : tie.Need-try-pairs-requires
+try-pairs-requires c κs =
+    let w = c .before .before .before in
+    (pair-lookable (asked w) (c .if2 .left), spotted (asked w) (w .before .look .ensures .0) (w .before .look .ensures .1) refl refl)
+
+returns-3 : tie.Need-returns-3
+returns-3 c =
+    let e = c .before .before .before in
+    let w = e .before in
+    let allowed = start w .pre .termed .allowed in
+    let found = w .before .look .ensures .0 in
+    (is-decided w (λ lows′ highs′ pin. met-so _ (w .within .ensures) (not-false _ (e .if1 .left))
+    (decides (asked w) allowed pin (found .is pin) (pairs-asked (asked w) allowed pin (found .is pin .reached) (c .try-pairs .ensures .0 .is pin)))),
+    found-as (c .try-pairs .ensures .1) (is-found w))
 
 pub try-value-spec : {M : Type 1} → statement M
 try-value-spec =
     tie.close
-    (tie.spec last-within-requires look-requires within-requires returns past-requires past-requires-2 apart-requires newton-step-requires returns-2)
+    (tie.spec
+    last-within-requires
+    look-requires
+    within-requires
+    past-requires
+    past-requires-2
+    apart-requires
+    newton-step-requires
+    returns
+    returns-2
+    try-pairs-requires
+    returns-3)

@@ -11,8 +11,8 @@ use Rattle.probe.proofs.rows.last_row.Tie as tie
 sub-result : tie.Need-sub-result
 sub-result c =
     let size : ℕ = length (c .args .table .now) in
-    let below : size % 5 < 5 = mod-lt size (omega arith) in
-    omega (arith, c .pre, div-add-mod size 5)
+    let below : size % 7 < 7 = mod-lt size (omega arith) in
+    omega (arith, c .pre, div-add-mod size 7)
 
 returns : tie.Need-returns
 unfolding lastRow

@@ -58,7 +58,7 @@ same-length c = search needs
 
 returns : tie.Need-returns
 returns c =
-    let at : ℕ = 5 * c .args .k in
+    let at : ℕ = 7 * c .args .k in
     let one : at + 1 ≡ suc at = omega arith in
     let two : at + 2 ≡ suc (suc at) = omega arith in
     let three : at + 3 ≡ suc (suc (suc at)) = omega arith in
