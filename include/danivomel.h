@@ -113,34 +113,47 @@ typedef struct {
     uint64_t value;
 } danivomel_spread;
 
+/*
+ * The sum of larger less smaller share over all pairs of running members, each pair once; 0 where all are shut. Divided
+ * by n * total, where that is not 0, it is the Gini coefficient of their shares.
+ */
+typedef struct {
+    uint64_t value;
+} danivomel_pairs;
+
 /* A limit: any limits nothing, and at_most is then not looked at. */
 typedef struct {
     bool any;
     uint64_t at_most;
 } danivomel_limit;
 
-/* A group's limits: the deviation's 0 to 100,000,000,000, the spread's 0 to 100,000,000,000,000,000. */
+/*
+ * A group's limits: the deviation's 0 to 100,000,000,000, the spread's 0 to 100,000,000,000,000,000, and that of the
+ * pair differences 0 to 100,000,000,000.
+ */
 typedef struct {
     danivomel_limit deviation;
     danivomel_limit spread;
+    danivomel_limit pairs;
 } danivomel_limits;
 
 /*
- * What levelling answers. On every refusal (1, 4, 7, 11) level, deviation and spread are 0; on success each of them can
- * be 0 too. The level is 1,000,000 exactly where every share is its unit's high, and so where all members are shut.
+ * What levelling answers. On every refusal (1, 4, 7, 11) the level and all three figures are 0; on success each of them
+ * can be 0 too. The level is 1,000,000 exactly where every share is its unit's high, and so where all members are shut.
  */
 typedef struct {
     danivomel_refusal refusal;
     uint64_t level;
     danivomel_deviation deviation;
     danivomel_spread spread;
+    danivomel_pairs pairs;
 } danivomel_levelled;
 
 /*
  * Levels a group: the most even shares within lows and highs (0 to 1,000,000) that add up to the total (0 to
- * 256,000,000), written to the plan. No other such shares have a lesser deviation or spread. A plan may be longer than
- * the group. The marks are a number for each member, DANIVOMEL_RUNNING or DANIVOMEL_SHUT; a shut member's low and high
- * are 0, and so is its share.
+ * 256,000,000), written to the plan. No other such shares have a lesser deviation, spread or pair differences. A plan
+ * may be longer than the group. The marks are a number for each member, DANIVOMEL_RUNNING or DANIVOMEL_SHUT; a shut
+ * member's low and high are 0, and so is its share.
  * Refuses, in this order: 1 for lows, highs and marks empty, of unequal length or over 256, or a plan shorter than they
  * are; 4 for low, high and mark of the units in order; 4 for the total, place 0; 7 for the units in order; 11, place 0.
  */
@@ -154,7 +167,7 @@ danivomel_levelled danivomel_level(
 /*
  * Narrows a group in place: afterwards lows and highs hold, for each member, exactly the values that some plan takes,
  * where a plan is a choice of shares within the lows and highs at the call that add up to the total and are within
- * both limits. The marks are as for levelling, and are only read; a shut member's range stays 0 to 0.
+ * all limits. The marks are as for levelling, and are only read; a shut member's range stays 0 to 0.
  * Refuses, in this order: 1 for lows, highs and marks empty, of unequal length or over 256; 4 for low, high and mark of
  * the units in order; 4 for total and limits, place 0; 7 for the units in order; 11; 12, both with place 0.
  */
@@ -238,7 +251,7 @@ danivomel_reported danivomel_report(
     uint64_t *scratch, size_t scratch_count,
     uint8_t *buffer, size_t buffer_count);
 
-/* What writing answers. On every refusal (1 to 10, 13 to 15) the length is 0. On success it is 7 to 26,752. */
+/* What writing answers. On every refusal (1 to 10, 13 to 15) the length is 0. On success it is 7 to 28,096. */
 typedef struct {
     danivomel_refusal refusal;
     size_t length;
@@ -250,7 +263,7 @@ typedef struct {
  * ranges; a text with the table that its reading filled is written as the same bytes; and a settled job that was written
  * settles in one pass. The table is not changed, and no scratch is needed.
  * Refuses, in this order: as reading, table included; 4, then 7 for the ranges of the table, as settling does; 1 for a
- * buffer with fewer bytes than are to be written. 26,752 bytes are always enough.
+ * buffer with fewer bytes than are to be written. 28,096 bytes are always enough.
  */
 danivomel_written danivomel_write(
     const uint8_t *text, size_t text_count,

@@ -294,6 +294,6 @@ def write(text: Text, table: Table) -> str:
     '(unit 4 6)\\n(unit 4 6)\\n(group 10 (dev 4) (spread any) (of 1 2))\\n'
     """
     _, array, count = _table(table)
-    buffer = create_string_buffer(26_752)
+    buffer = create_string_buffer(28_096)
     answer = _call("write", *_text(text), array, count, buffer, len(buffer))
     return buffer[:answer.length].decode("ascii")

@@ -1,9 +1,11 @@
 -- The members of groups. Assumes nothing.
 use Prim.Native.Nat.{ℕ, _+_, _<_}
+use mathlib.Core.Bool.{false}
 use mathlib.Core.List.{List, [], _∷_}
 use mathlib.Core.Path.{_≡_}
 use lib.ListN.{length, getD}
 use Rattle.model.specs.Groups.{Group}
+use Rattle.model.specs.declared.Limit.the-variants.{Any}
 
 -- 01: memberships, "the sum of the groups' n"
 unfoldable pub memberships : List Group → ℕ
@@ -26,3 +28,7 @@ pub record SoundMembers (count : ℕ) (group : Group) : Type 0 where
 pub record SoundGroup (count : ℕ) (group : Group) : Type 0 where
   pub some : 0 < size group
   pub named : SoundMembers count group
+
+-- 02: without a pairs limit "the limit is any"
+abbrev pub UnsaidAny : Group → Type 0
+UnsaidAny group = group .pairsThere ≡ false → group .limits .pairs ≡ Any

@@ -1,11 +1,11 @@
 -- The lines of a job text: what a line says, how it is printed, and how it is read. Assumes nothing.
 use Prim.Native.Nat.{ℕ, zero, suc}
+use mathlib.Core.Bool.{Bool, true, false}
 use mathlib.Core.List.{List, [], _∷_, _++_}
 use lib.ListN.{length}
 use Rattle.model.specs.declared.Limit.{Limit}
 use Rattle.model.specs.declared.Limit.the-variants.{Any, AtMost}
 use Rattle.model.specs.declared.Limits.{Limits}
-use Rattle.job.specs.declared.lines.Head.{Head}
 use Rattle.text.specs.Parsed.{Parsed, parsed, failed, andThen, mapped, orElse, word}
 use Rattle.text.specs.Numbers.{numberAfter, printNumber}
 
@@ -29,10 +29,35 @@ abbrev pub lineMark : UnitLine → ℕ
 lineMark (range low high) = 0
 lineMark shut = 1
 
+-- 02: "A group may carry `(pairs LIMIT)` before `(of`"
+pub data PairsLimit : Type 0 where
+  unsaid : PairsLimit
+  said : Limit → PairsLimit
+
+-- its limit; 02: "without it the limit is any"
+abbrev pub pairsLimit : PairsLimit → Limit
+pairsLimit unsaid = Any
+pairsLimit (said limit) = limit
+
+-- whether it is there
+abbrev pub isSaid : PairsLimit → Bool
+isSaid unsaid = false
+isSaid (said limit) = true
+
+-- what a group line says ahead of its unit numbers: total, deviation limit, spread limit, and a pairs limit or none
+pub record Heading : Type 0 where
+  pub total : ℕ
+  pub deviation : Limit
+  pub spread : Limit
+  pub pairs : PairsLimit
+
+-- its limits
+abbrev pub limitsSaid : Heading → Limits
+limitsSaid h = record { deviation = h .deviation; spread = h .spread; pairs = pairsLimit (h .pairs) }
+
 -- 01: "A group line holds total, deviation limit, spread limit and one or more unit numbers"
 pub record GroupLine : Type 0 where
-  pub total : ℕ
-  pub limits : Limits
+  pub heading : Heading
   pub first : ℕ
   pub others : List ℕ
 
@@ -65,6 +90,10 @@ deviationOpening = 32 ∷ 40 ∷ 100 ∷ 101 ∷ 118 ∷ 32 ∷ []
 abbrev pub spreadOpening : List ℕ
 spreadOpening = 41 ∷ 32 ∷ 40 ∷ 115 ∷ 112 ∷ 114 ∷ 101 ∷ 97 ∷ 100 ∷ 32 ∷ []
 
+-- ) (pairs
+abbrev pub pairsOpening : List ℕ
+pairsOpening = 41 ∷ 32 ∷ 40 ∷ 112 ∷ 97 ∷ 105 ∷ 114 ∷ 115 ∷ 32 ∷ []
+
 -- ) (of
 abbrev pub membersOpening : List ℕ
 membersOpening = 41 ∷ 32 ∷ 40 ∷ 111 ∷ 102 ∷ []
@@ -81,6 +110,11 @@ anyWord = 97 ∷ 110 ∷ 121 ∷ []
 unfoldable pub printLimit : Limit → List ℕ
 printLimit Any = anyWord
 printLimit (AtMost v) = printNumber v
+
+-- a pairs limit, where it is there
+unfoldable pub printPairs : PairsLimit → List ℕ
+printPairs unsaid = []
+printPairs (said limit) = pairsOpening ++ printLimit limit
 
 -- each number after a space
 unfoldable pub printMembers : List ℕ → List ℕ
@@ -101,20 +135,21 @@ printUnitLine (range low high) = printUnit low high
 printUnitLine shut = printShut
 
 -- a group line as it is written: total, limits, unit numbers
-abbrev pub printGroup : ℕ → Limits → List ℕ → List ℕ
-printGroup total limits numbers =
+abbrev pub printGroup : Heading → List ℕ → List ℕ
+printGroup h numbers =
     groupOpening
-    ++ (printNumber total
+    ++ (printNumber (h .total)
     ++ (deviationOpening
-    ++ (printLimit (limits .deviation)
+    ++ (printLimit (h .deviation)
     ++ (spreadOpening
-    ++ (printLimit (limits .spread)
-    ++ (membersOpening ++ (printMembers numbers ++ groupEnding)))))))
+    ++ (printLimit (h .spread)
+    ++ (printPairs (h .pairs)
+    ++ (membersOpening ++ (printMembers numbers ++ groupEnding))))))))
 
 -- a line as it is written: the form of 01
 unfoldable pub printLine : Line → List ℕ
 printLine (unit l) = printUnitLine l
-printLine (group g) = printGroup (g .total) (g .limits) (g .first ∷ g .others)
+printLine (group g) = printGroup (g .heading) (g .first ∷ g .others)
 
 -- a word and the number after it, held by a function of its value: the code holds numbers above every limit alike
 unfoldable pub numberAs : (ℕ → ℕ) → List ℕ → List ℕ → Parsed ℕ
@@ -123,6 +158,10 @@ numberAs f w s = mapped f (numberAfter w s)
 -- a word and the limit after it
 unfoldable pub limitAs : (ℕ → ℕ) → List ℕ → List ℕ → Parsed Limit
 limitAs f w s = andThen (word w s) (λ u s. orElse (mapped (λ u. Any) (word anyWord s)) (mapped AtMost (numberAs f [] s)))
+
+-- a pairs limit, where it is there
+unfoldable pub pairsAs : (ℕ → ℕ) → List ℕ → Parsed PairsLimit
+pairsAs f s = orElse (mapped said (limitAs f pairsOpening s)) (parsed unsaid s)
 
 -- a unit line with its low and high
 unfoldable pub rangeAs : (ℕ → ℕ) → List ℕ → Parsed UnitLine
@@ -141,17 +180,18 @@ membersAs f zero s = parsed [] s
 membersAs f (suc n) s = orElse (andThen (numberAs f space s) (λ m s. mapped (λ ms. m ∷ ms) (membersAs f n s))) (parsed [] s)
 
 -- a group line up to its members
-unfoldable pub headAs : (ℕ → ℕ) → List ℕ → Parsed Head
+unfoldable pub headAs : (ℕ → ℕ) → List ℕ → Parsed Heading
 headAs f s =
     andThen (numberAs f groupOpening s)
     (λ total s. andThen (limitAs f deviationOpening s)
     (λ deviation s. andThen (limitAs f spreadOpening s)
-    (λ spread s. mapped (λ u. record { total = total; limits = record { deviation = deviation; spread = spread } }) (word membersOpening s))))
+    (λ spread s. andThen (pairsAs f s)
+    (λ pairs s. mapped (λ u. record { total = total; deviation = deviation; spread = spread; pairs = pairs }) (word membersOpening s)))))
 
 -- with its members, one or more
-unfoldable pub grouped : Head → List ℕ → List ℕ → Parsed GroupLine
+unfoldable pub grouped : Heading → List ℕ → List ℕ → Parsed GroupLine
 grouped h [] s = failed
-grouped h (m ∷ ms) s = parsed (record { total = h .total; limits = h .limits; first = m; others = ms }) s
+grouped h (m ∷ ms) s = parsed (record { heading = h; first = m; others = ms }) s
 
 -- a group line
 unfoldable pub groupAs : (ℕ → ℕ) → List ℕ → Parsed GroupLine

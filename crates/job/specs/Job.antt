@@ -8,12 +8,12 @@ use Rattle.text.specs.Ailments.{frontLine, ailmentOf}
 use Rattle.groups.specs.Memberships.{memberships}
 use Rattle.model.specs.Shares.{pick, greatestShare, greatestTotal, mostUnits}
 use Rattle.model.specs.Refusals.{refusal, unless}
-use Rattle.model.specs.Figures.{greatestDeviation, greatestSpread, limitWithin}
+use Rattle.model.specs.Figures.{greatestDeviation, greatestSpread, greatestPairs, limitWithin}
 use Rattle.model.specs.Groups.{Group}
 use Rattle.model.specs.declared.Limits.{Limits}
 use Rattle.model.specs.declared.Refusal.{Refusal}
 use Rattle.text.specs.Parsed.{Parsed, parsed, failed}
-use Rattle.job.specs.Form.{UnitLine, lineLow, lineHigh, lineMark, GroupLine, Line, unit, group, line}
+use Rattle.job.specs.Form.{UnitLine, lineLow, lineHigh, lineMark, isSaid, limitsSaid, GroupLine, Line, unit, group, line}
 
 -- a job: the ranges of its units, their marks (02: "0 running, 1 shut"), and its groups
 pub record Job : Type 0 where
@@ -68,8 +68,9 @@ headVerdict groups taken total limits count =
     unless (leb total greatestTotal) 4
     (unless (limitWithin (limits .deviation) greatestDeviation) 4
     (unless (limitWithin (limits .spread) greatestSpread) 4
+    (unless (limitWithin (limits .pairs) greatestPairs) 4
     (unless (ltb groups mostGroups) 6
-    (unless (leb (taken + count) mostMemberships) 6 0))))
+    (unless (leb (taken + count) mostMemberships) 6 0)))))
 
 -- 01: and by its members
 unfoldable pub membersVerdict : ℕ → List ℕ → ℕ
@@ -85,7 +86,8 @@ unfoldable pub verdict : Job → Line → ℕ
 verdict job (unit l) = unitVerdict (length (job .lows)) (length (job .groups)) l
 verdict job (group g) =
     let ms : List ℕ = g .first ∷ g .others in
-    firstRefusal (headVerdict (length (job .groups)) (memberships (job .groups)) (g .total) (g .limits) (length ms)) (membersVerdict (length (job .lows)) ms)
+    firstRefusal (headVerdict (length (job .groups)) (memberships (job .groups)) (g .heading .total) (limitsSaid (g .heading)) (length ms))
+    (membersVerdict (length (job .lows)) ms)
 
 -- a member is the unit's number less 1
 abbrev pub memberOf : ℕ → ℕ
@@ -93,7 +95,13 @@ memberOf m = m - 1
 
 -- the group of a group line
 abbrev pub groupOf : GroupLine → Group
-groupOf g = record { total = g .total; limits = g .limits; members = map memberOf (g .first ∷ g .others) }
+groupOf g =
+    record {
+      total = g .heading .total;
+      limits = limitsSaid (g .heading);
+      pairsThere = isSaid (g .heading .pairs);
+      members = map memberOf (g .first ∷ g .others);
+    }
 
 -- the job with one line more
 unfoldable pub add : Job → Line → Job

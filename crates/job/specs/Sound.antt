@@ -4,11 +4,11 @@ use mathlib.Core.Bool.{true}
 use mathlib.Core.List.{List, [], _∷_}
 use mathlib.Core.Path.{_≡_}
 use lib.ListN.{length}
-use Rattle.model.specs.Figures.{greatestDeviation, greatestSpread, limitWithin}
+use Rattle.model.specs.Figures.{greatestDeviation, greatestSpread, greatestPairs, limitWithin}
 use Rattle.model.specs.Shares.{Ranges, greatestTotal, mostUnits}
 use Rattle.model.specs.Running.{Marked}
 use Rattle.model.specs.Groups.{Group}
-use Rattle.groups.specs.Memberships.{memberships, SoundGroup}
+use Rattle.groups.specs.Memberships.{memberships, SoundGroup, UnsaidAny}
 use Rattle.job.specs.Job.{Job, mostGroups, mostMemberships}
 
 -- 01: a sound group, with a total and limits in range
@@ -16,6 +16,8 @@ pub record AcceptedGroup (units : ℕ) (g : Group) : Type 0 where
   pub total-fits : g .total ≤ greatestTotal
   pub deviation-fits : limitWithin (g .limits .deviation) greatestDeviation ≡ true
   pub spread-fits : limitWithin (g .limits .spread) greatestSpread ≡ true
+  pub pairs-fits : limitWithin (g .limits .pairs) greatestPairs ≡ true
+  pub unsaid-any : UnsaidAny g
   pub sound : SoundGroup units g
 
 -- every group is so

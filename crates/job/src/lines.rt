@@ -5,10 +5,10 @@ ghost use mathlib.Core.Bool.{_&&_};
 ghost use lib.ListN.{length, drop, set};
 ghost use Rattle.text.specs.Parsed.{mapped};
 ghost use Rattle.job.specs.Job.{mostBytes, named, memberOf};
-ghost use Rattle.job.specs.Inner.Tally.{tallied, groupTally};
+ghost use Rattle.job.specs.Inner.Tally.{keptHead, tallied, groupTally};
 ghost use Rattle.text.specs.Inner.Numbers.{held};
 ghost use Rattle.job.specs.Form.{space, numberAs, rangeAs, unitAs, limitAs, headAs, membersAs, groupAs};
-ghost use Rattle.job.specs.Inner.LinesRead.{keptUnit, unitSeen, limitSeen, headSeen, membersSeen, groupSeen};
+ghost use Rattle.job.specs.Inner.LinesRead.{keptUnit, unitSeen, limitSeen, PairsTold, headSeen, membersSeen, groupSeen};
 ghost use Rattle.text.specs.Inner.Spots.{counted};
 use model::Limit;
 use model::Limits;
@@ -37,10 +37,18 @@ pub enum LimitRead {
     Missing,
 }
 
-// A group line up to its members.
+// What reading a pairs limit answers: whether it is there, the limit, any where it is not, and the spot after it.
+pub struct PairsRead {
+    pub there: bool,
+    pub limit: Limit,
+    pub next: Spot,
+}
+
+// A group line up to its members: its total and limits, and whether a pairs limit is there.
 pub struct Head {
     pub total: u64,
     pub limits: Limits,
+    pub pairs_there: bool,
 }
 
 // What reading it answers: the head, and the spot after it.
@@ -116,8 +124,27 @@ fn limit_after(text: &[u8], spot: Spot, bytes: &[u8]) -> LimitRead
     LimitRead::Is(Limit::AtMost(most), spot)
 }
 
+// Reads a pairs limit, where it is there.
+fn pairs_after(text: &[u8], spot: Spot) -> PairsRead
+    ensures { λ r. ⌜ PairsTold (now (text .entry)) (drop (spot .at) (now (text .entry))) r ⌝ }
+{
+    let pairs = limit_after(text, spot, b") (pairs ");
+    if let LimitRead::Is(limit, next) = pairs {
+        return PairsRead {
+            there: true,
+            limit,
+            next,
+        };
+    }
+    PairsRead {
+        there: false,
+        limit: Limit::Any,
+        next: spot,
+    }
+}
+
 fn head_line(text: &[u8], spot: Spot) -> HeadRead
-    ensures { λ r. ⌜ headSeen (now (text .entry)) r ≡ headAs held (drop (spot .at) (now (text .entry))) ⌝ }
+    ensures { λ r. ⌜ headSeen (now (text .entry)) r ≡ mapped keptHead (headAs held (drop (spot .at) (now (text .entry)))) ⌝ }
 {
     let Number::Value(total, spot) = spot.number_after(text, b"(group ") else {
         return HeadRead::Missing;
@@ -128,11 +155,24 @@ fn head_line(text: &[u8], spot: Spot) -> HeadRead
     let LimitRead::Is(spread, spot) = limit_after(text, spot, b") (spread ") else {
         return HeadRead::Missing;
     };
-    let Step::To(spot) = spot.word(text, b") (of") else {
+    let said = pairs_after(text, spot);
+    let pairs = said.limit;
+    let pairs_there = said.there;
+    let end = said.next;
+    let Step::To(spot) = end.word(text, b") (of") else {
         return HeadRead::Missing;
     };
-    let limits = Limits { deviation, spread };
-    HeadRead::Is(Head { total, limits }, spot)
+    let limits = Limits {
+        deviation,
+        spread,
+        pairs,
+    };
+    let head = Head {
+        total,
+        limits,
+        pairs_there,
+    };
+    HeadRead::Is(head, spot)
 }
 
 // Reads a space and a unit number.

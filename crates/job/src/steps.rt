@@ -24,6 +24,7 @@ use groups::put_group;
 use groups::put_mark;
 use model::Checked;
 use model::GREATEST_DEVIATION;
+use model::GREATEST_PAIRS;
 use model::GREATEST_SPREAD;
 use model::GREATEST_TOTAL;
 use model::MOST_UNITS;
@@ -86,6 +87,10 @@ fn head_verdict(progress: Progress, head: Head, count: usize) -> u64
     }
     let spread = limits.spread;
     if !spread.within(GREATEST_SPREAD) {
+        return 4;
+    }
+    let pairs = limits.pairs;
+    if !pairs.within(GREATEST_PAIRS) {
         return 4;
     }
     if MOST_GROUPS <= progress.groups {
@@ -202,7 +207,8 @@ fn take_group(text: &[u8], spot: Spot, progress: Progress, flat: &mut [u64]) -> 
     let count = members.count;
     let total = head.total;
     let limits = head.limits;
-    put_group(flat, at, total, limits, count);
+    let pairs_there = head.pairs_there;
+    put_group(flat, at, total, limits, pairs_there, count);
     let more = Progress {
         units,
         groups: groups + 1,

@@ -5,7 +5,7 @@ use mathlib.Core.List.{List, [], _∷_}
 use lib.Dec.{leb, ltb, eqb}
 use lib.ListN.{length}
 use Rattle.model.specs.Shares.{pick, greatestShare, greatestTotal, mostUnits}
-use Rattle.model.specs.Figures.{greatestDeviation, greatestSpread, limitWithin}
+use Rattle.model.specs.Figures.{greatestDeviation, greatestSpread, greatestPairs, limitWithin}
 use Rattle.model.specs.Running.{runs}
 use Rattle.model.specs.declared.Limits.{Limits}
 use Rattle.levelling.specs.declared.Check.{Check}
@@ -46,7 +46,9 @@ sized count other marked room =
 -- 01, 4 for total and limits: each is in its range
 abbrev pub amountsWithin : ℕ → Limits → Bool
 amountsWithin total limits =
-    leb total greatestTotal && (limitWithin (limits .deviation) greatestDeviation && limitWithin (limits .spread) greatestSpread)
+    leb total greatestTotal
+    && (limitWithin (limits .deviation) greatestDeviation
+    && (limitWithin (limits .spread) greatestSpread && limitWithin (limits .pairs) greatestPairs))
 
 -- a refusal if the test holds, and else what comes after it
 abbrev pub refuseIf : Bool → ℕ → ℕ → Check → Check

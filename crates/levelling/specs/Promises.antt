@@ -5,7 +5,7 @@ use mathlib.Core.Path.{_≡_}
 use lib.ListN.{length, take, drop}
 use Rattle.model.specs.Shares.{greatestShare, Within, sum}
 use Rattle.model.specs.Levels.{totalAt, levelled}
-use Rattle.model.specs.Running.{markedDeviation, markedSpread, markedAbove, markedFigures}
+use Rattle.model.specs.Running.{markedDeviation, markedSpread, markedPairs, markedAbove, markedFigures}
 use Rattle.model.specs.declared.Figures.{Figures}
 use Rattle.levelling.specs.Levelling.{levelling, planAfter}
 
@@ -16,12 +16,13 @@ pub record GreatestLevel (lows highs : List ℕ) (total v : ℕ) : Type 0 where
   pub greatest : (w : ℕ) → w ≤ greatestShare → totalAt lows highs w ≤ total → w ≤ v
 
 -- 01, demand 2: shares in the ranges that add up to the total; none such have a lesser deviation, spread or total above t, for every t;
--- 02: all three of the running members
+-- 02: "a third figure, under demand 2 too", and all four of the running members
 pub record LeastShares (lows highs marks : List ℕ) (total : ℕ) (shares : List ℕ) : Type 0 where
   pub within : Within lows highs shares
   pub adds : sum shares ≡ total
   pub leastDeviation : (xs : List ℕ) → Within lows highs xs → sum xs ≡ total → markedDeviation marks total shares ≤ markedDeviation marks total xs
   pub leastSpread : (xs : List ℕ) → Within lows highs xs → sum xs ≡ total → markedSpread marks total shares ≤ markedSpread marks total xs
+  pub leastPairs : (xs : List ℕ) → Within lows highs xs → sum xs ≡ total → markedPairs marks shares ≤ markedPairs marks xs
   pub leastAbove : (xs : List ℕ) → Within lows highs xs → sum xs ≡ total → (t : ℕ) → markedAbove marks t shares ≤ markedAbove marks t xs
 
 -- what levelling promises where it answers level v and these figures: the plan list begins with least shares, whose figures they are,

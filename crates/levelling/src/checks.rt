@@ -2,6 +2,7 @@
 use crate::Check;
 use model::Checked;
 use model::GREATEST_DEVIATION;
+use model::GREATEST_PAIRS;
 use model::GREATEST_SPREAD;
 use model::GREATEST_TOTAL;
 use model::Limits;
@@ -135,13 +136,17 @@ pub fn amounts_within(total: u64, limits: Limits) -> bool
 {
     let deviation = limits.deviation;
     let spread = limits.spread;
+    let pairs = limits.pairs;
     if GREATEST_TOTAL < total {
         return false;
     }
     if !deviation.within(GREATEST_DEVIATION) {
         return false;
     }
-    spread.within(GREATEST_SPREAD)
+    if !spread.within(GREATEST_SPREAD) {
+        return false;
+    }
+    pairs.within(GREATEST_PAIRS)
 }
 
 // A refusal by number and place.

@@ -13,11 +13,11 @@ settledLine passes = printedLine (bytes "(settled") (passes ∷ [])
 abbrev pub unitLine : ℕ → ℕ → ℕ → List ℕ
 unitLine number low high = printedLine (bytes "(unit") (number ∷ low ∷ high ∷ [])
 
--- 01: "(group 1 5 0 0 (plan 5 5))": "group number, level, deviation, spread, levelled shares"
+-- 01: "group number, level, deviation, spread, levelled shares"; 02: "Reports print the figure after spread": "(group 1 5 0 0 0 (plan 5 5))"
 unfoldable pub groupLine : ℕ → ℕ → Figures → List ℕ → List ℕ
 groupLine number level figures shares =
     flatten
-    (form (bytes "(group") (number ∷ level ∷ figures .deviation .0 ∷ figures .spread .0 ∷ [])
+    (form (bytes "(group") (number ∷ level ∷ figures .deviation .0 ∷ figures .spread .0 ∷ figures .pairs .0 ∷ [])
     ∷ form (bytes " (plan") shares
     ∷ bytes "))\n"
     ∷ [])

@@ -60,7 +60,13 @@ fn put_group_line(
         buffer,
         at,
         b"(group",
-        &[number, level, figures.deviation.0, figures.spread.0],
+        &[
+            number,
+            level,
+            figures.deviation.0,
+            figures.spread.0,
+            figures.pairs.0,
+        ],
     );
     next = put_form(buffer, next, b" (plan", shares);
     put_word(buffer, next, b"))\n")

@@ -30,11 +30,11 @@ allJobs (k ∷ ks) = holdsJob k && allJobs ks
 
 -- a pair of units with total 1, limits any
 abbrev pub pair : ℕ → ℕ → Group
-pair a b = record { total = 1; limits = limitsOf Any Any; members = a ∷ b ∷ [] }
+pair a b = record { total = 1; limits = limitsOf Any Any Any; pairsThere = false; members = a ∷ b ∷ [] }
 
 -- 01: "Three units of [0,1], each pair a group with S 1, limits any"
-unfoldable pub pairs : List Group
-pairs = pair 0 1 ∷ pair 0 2 ∷ pair 1 2 ∷ []
+unfoldable pub threePairs : List Group
+threePairs = pair 0 1 ∷ pair 0 2 ∷ pair 1 2 ∷ []
 
 unfoldable pub pairTable : Table
 pairTable = record { lows = 0 ∷ 0 ∷ 0 ∷ []; highs = 1 ∷ 1 ∷ 1 ∷ [] }
@@ -42,8 +42,15 @@ pairTable = record { lows = 0 ∷ 0 ∷ 0 ∷ []; highs = 1 ∷ 1 ∷ 1 ∷ [] }
 -- 01's example of a job text
 unfoldable pub example : List Group
 example =
-    record { total = 10; limits = limitsOf (AtMost 4) Any; members = 0 ∷ 1 ∷ [] }
-    ∷ record { total = 8; limits = limitsOf Any (AtMost 4); members = 1 ∷ 2 ∷ [] }
+    record { total = 10; limits = limitsOf (AtMost 4) Any Any; pairsThere = false; members = 0 ∷ 1 ∷ [] }
+    ∷ record { total = 8; limits = limitsOf Any (AtMost 4) Any; pairsThere = false; members = 1 ∷ 2 ∷ [] }
+    ∷ []
+
+-- the same with limits on the pair differences alone
+unfoldable pub examplePairs : List Group
+examplePairs =
+    record { total = 10; limits = limitsOf Any Any (AtMost 2); pairsThere = true; members = 0 ∷ 1 ∷ [] }
+    ∷ record { total = 8; limits = limitsOf Any Any (AtMost 2); pairsThere = true; members = 1 ∷ 2 ∷ [] }
     ∷ []
 
 unfoldable pub exampleTable : Table
@@ -52,6 +59,7 @@ exampleTable = record { lows = 0 ∷ 0 ∷ 0 ∷ []; highs = 10 ∷ 10 ∷ 10 �
 unfoldable pub knownJobs : List KnownJob
 knownJobs =
     map KnownJob.group known
-    ++ KnownJob.job pairs pairTable (Outcome.settled pairTable 1)
+    ++ KnownJob.job threePairs pairTable (Outcome.settled pairTable 1)
     ∷ KnownJob.job example exampleTable (Outcome.settled (record { lows = 5 ∷ 4 ∷ 3 ∷ []; highs = 6 ∷ 5 ∷ 4 ∷ [] }) 3)
+    ∷ KnownJob.job examplePairs exampleTable (Outcome.settled (record { lows = 5 ∷ 4 ∷ 3 ∷ []; highs = 6 ∷ 5 ∷ 4 ∷ [] }) 3)
     ∷ []

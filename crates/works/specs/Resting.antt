@@ -14,7 +14,13 @@ marksOf marks group = gather marks (group .members)
 
 -- 02: the group of the members that run
 abbrev pub runningGroup : List ℕ → Group → Group
-runningGroup marks group = record { total = group .total; limits = group .limits; members = running (marksOf marks group) (group .members) }
+runningGroup marks group =
+    record {
+      total = group .total;
+      limits = group .limits;
+      pairsThere = group .pairsThere;
+      members = running (marksOf marks group) (group .members);
+    }
 
 -- 02: "The trade now counts running stands only"
 abbrev pub runningGroups : List ℕ → List Group → List Group

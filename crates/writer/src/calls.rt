@@ -20,8 +20,8 @@ ghost use Rattle.writer.specs.Calls.{writtenText, writeJob, writeOver, w
 ghost use Rattle.writer.specs.Inner.Asked.{jobHeld, HeldGroups};
 ghost use Rattle.writer.specs.Texts.{jobText, mostWritten};
 
-// The most bytes of a job's text: 256 unit lines of 23, 64 group lines of 70 and 4,096 members of 4.
-pub const MOST_WRITTEN: usize = 26_752;
+// The most bytes of a job's text: 256 unit lines of 23, 64 group lines of 91 and 4,096 members of 4.
+pub const MOST_WRITTEN: usize = 28_096;
 
 // Writes a job's text at the start of a buffer that holds every job's, and hands back its length.
 fn put_job(buffer: &mut [u8], flat: &[u64], groups: u64, lows: &[u64], highs: &[u64]) -> usize

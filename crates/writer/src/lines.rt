@@ -14,14 +14,14 @@ ghost use mathlib.Core.List.{flatten, _++_, map};
 ghost use mathlib.Core.Path.{_≡_};
 ghost use lib.ListN.{length};
 ghost use Rattle.groups.specs.Inner.Flat.{groupIn, groupsIn, Holds};
-ghost use Rattle.job.specs.Form.{printLimit};
+ghost use Rattle.job.specs.Form.{printLimit, printPairs};
 ghost use Rattle.job.specs.Sound.{AcceptedGroups};
 ghost use Rattle.model.specs.Shares.{mostUnits};
 ghost use Rattle.print.specs.Inner.Written.{Room, Wrote};
 ghost use Rattle.print.specs.Items.{items};
 ghost use Rattle.levelling.specs.Tables.{Named};
 ghost use Rattle.writer.specs.Inner.Pieces.{groupHead};
-ghost use Rattle.writer.specs.Texts.{rangeLine, rangeLines, memberLine};
+ghost use Rattle.writer.specs.Texts.{rangeLine, rangeLines, pairsWritten, headingOf, memberLine};
 
 // Writes a unit's line, its range or the word shut, and hands back the index after it.
 fn put_range_line(buffer: &mut [u8], at: usize, mark: u64, low: u64, high: u64) -> usize
@@ -75,16 +75,29 @@ fn put_limited(buffer: &mut [u8], at: usize, opening: &[u8], limit: Limit) -> us
     put_limit(buffer, next, limit)
 }
 
+// Writes a pairs limit where it was there, and hands back the index after it.
+fn put_pairs(buffer: &mut [u8], at: usize, there: bool, limit: Limit) -> usize
+    requires { ⌜ Room (now buffer) at (printPairs (pairsWritten there limit)) ⌝ }
+    ensures { λ r. ⌜ Wrote (printPairs (pairsWritten there limit)) (now (buffer .entry)) at (now (buffer .exit)) r ⌝ }
+{
+    if there {
+        return put_limited(buffer, at, b") (pairs ", limit);
+    }
+    at
+}
+
 // Writes a group's line up to its members, and hands back the index after it.
-fn put_head(buffer: &mut [u8], at: usize, total: u64, limits: Limits) -> usize
-    requires { ⌜ Room (now buffer) at (groupHead total limits) ⌝ }
-    ensures { λ r. ⌜ Wrote (groupHead total limits) (now (buffer .entry)) at (now (buffer .exit)) r ⌝ }
+fn put_head(buffer: &mut [u8], at: usize, total: u64, limits: Limits, pairs_there: bool) -> usize
+    requires { ⌜ Room (now buffer) at (groupHead (headingOf total limits «pairs_there»)) ⌝ }
+    ensures { λ r. ⌜ Wrote (groupHead (headingOf total limits «pairs_there»)) (now (buffer .entry)) at (now (buffer .exit)) r ⌝ }
 {
     let deviation = limits.deviation;
     let spread = limits.spread;
+    let pairs = limits.pairs;
     let mut next = put_form(buffer, at, b"(group", &[total]);
     next = put_limited(buffer, next, b" (dev ", deviation);
     next = put_limited(buffer, next, b") (spread ", spread);
+    next = put_pairs(buffer, next, pairs_there, pairs);
     put_word(buffer, next, b") (of")
 }
 
@@ -113,7 +126,7 @@ fn put_member_line(buffer: &mut [u8], at: usize, flat: &[u64], group: Stored) ->
     let limits = group.limits;
     let from = group.from;
     let end = from + group.count;
-    let mut next = put_head(buffer, at, group.total, limits);
+    let mut next = put_head(buffer, at, group.total, limits, group.pairs_there);
     next = put_members(buffer, next, &flat[from..end]);
     put_word(buffer, next, b"))\n")
 }

@@ -4,12 +4,15 @@ use mathlib.Core.List.{List}
 use Rattle.model.specs.declared.Limit.{Limit}
 use Rattle.text.specs.Parsed.{Parsed, parsed, failed}
 use Rattle.text.specs.Inner.Spots.{bytesFrom}
-use Rattle.job.specs.Form.{UnitLine, lineLow, lineHigh, lineMark}
+use mathlib.Core.Path.{_≡_}
+use Rattle.text.specs.Inner.Numbers.{held}
+use Rattle.job.specs.Form.{UnitLine, lineLow, lineHigh, lineMark, PairsLimit, pairsLimit, isSaid, pairsAs}
 use Rattle.job.specs.declared.lines.Unit.{Unit}
 use Rattle.job.specs.declared.lines.UnitRead.{UnitRead}
 use Rattle.job.specs.declared.lines.UnitRead.the-variants as unit-read
 use Rattle.job.specs.declared.lines.LimitRead.{LimitRead}
 use Rattle.job.specs.declared.lines.LimitRead.the-variants as limit-read
+use Rattle.job.specs.declared.lines.PairsRead.{PairsRead}
 use Rattle.job.specs.declared.lines.Head.{Head}
 use Rattle.job.specs.declared.lines.HeadRead.{HeadRead}
 use Rattle.job.specs.declared.lines.HeadRead.the-variants as head-read
@@ -31,6 +34,13 @@ unitSeen text unit-read.Missing = failed
 abbrev pub limitSeen : List ℕ → LimitRead → Parsed Limit
 limitSeen text (limit-read.Is limit spot) = parsed limit (bytesFrom text spot)
 limitSeen text limit-read.Missing = failed
+
+-- what reading a pairs limit from a spot on tells: what was said, and the spot after it
+pub record PairsTold (text from : List ℕ) (r : PairsRead) : Type 0 where
+  pub words : PairsLimit
+  pub read : pairsAs held from ≡ parsed words (bytesFrom text (r .next))
+  pub limit : pairsLimit words ≡ r .limit
+  pub there : isSaid words ≡ r .there
 
 -- a group line's head and the spot after it
 abbrev pub headSeen : List ℕ → HeadRead → Parsed Head

@@ -4,7 +4,7 @@ use mathlib.Core.Bool.{Bool}
 use mathlib.Core.List.{List, _∷_, map}
 use lib.ListN.{length}
 use lib.Seq.{sets}
-use Rattle.job.specs.Form.{GroupLine}
+use Rattle.job.specs.Form.{isSaid, Heading, limitsSaid, GroupLine}
 use Rattle.job.specs.declared.lines.Head.{Head}
 use Rattle.job.specs.Job.{allNamed, memberOf}
 
@@ -18,6 +18,10 @@ pub record Tally : Type 0 where
 unfoldable pub tallied : ℕ → ℕ → List ℕ → List ℕ → Tally
 tallied units from flat ms = record { count = length ms; within = allNamed units ms; flat = sets flat from (map memberOf ms) }
 
+-- a group line up to its members as the code keeps it
+abbrev pub keptHead : Heading → Head
+keptHead h = record { total = h .total; limits = limitsSaid h; «pairs_there» = isSaid (h .pairs) }
+
 -- a group line as the code keeps it
 pub record GroupTally : Type 0 where
   pub head : Head
@@ -26,4 +30,4 @@ pub record GroupTally : Type 0 where
 -- a group line and the tally of its members
 abbrev pub groupTally : ℕ → ℕ → List ℕ → GroupLine → GroupTally
 groupTally units from flat g =
-    record { head = record { total = g .total; limits = g .limits }; tally = tallied units from flat (g .first ∷ g .others) }
+    record { head = keptHead (g .heading); tally = tallied units from flat (g .first ∷ g .others) }

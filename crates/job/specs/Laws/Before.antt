@@ -11,10 +11,11 @@ use lib.ListN.{length}
 use Rattle.text.specs.Ailments.{frontLine, ended, paired, isNamed, ailmentOf}
 use Rattle.groups.specs.Memberships.{memberships}
 use Rattle.model.specs.Refusals.{refusal, unless}
-use Rattle.model.specs.Figures.{greatestDeviation, greatestSpread, limitWithin}
+use Rattle.model.specs.Figures.{greatestDeviation, greatestSpread, greatestPairs, limitWithin}
 use Rattle.model.specs.Shares.{pick, greatestShare, greatestTotal, mostUnits}
+use Rattle.model.specs.declared.Limits.{Limits}
 use Rattle.text.specs.Parsed.{Parsed, parsed, failed}
-use Rattle.job.specs.Form.{lineLow, lineHigh, Line, unit, group, line}
+use Rattle.job.specs.Form.{lineLow, lineHigh, limitsSaid, Line, unit, group, line}
 use Rattle.job.specs.Job.{Job, mostBytes, unitVerdict, headVerdict, membersVerdict, firstRefusal, verdict, add, placeOf, judged, stepOn}
 use Rattle.job.specs.Job.{mostGroups, mostMemberships, allNamed, distinct, JobOrRefusal, accepted, refused, onward, readLines, noLines, someUnit, readJob}
 use Rattle.job.specs.Before.{stepBefore, linesBefore, readBefore, ofForm, asBefore}
@@ -42,12 +43,15 @@ line-verdict job (unit l) =
     (unless-verdict (leb (lineLow l) (lineHigh l)) 7 (omega arith) (omega arith) (inl refl)))))
 line-verdict job (group g) =
     let ms : List ℕ = g .first ∷ g .others in
-    first-verdict (headVerdict (length (job .groups)) (memberships (job .groups)) (g .total) (g .limits) (length ms)) (membersVerdict (length (job .lows)) ms)
-    (unless-verdict (leb (g .total) greatestTotal) 4 (omega arith) (omega arith)
-    (unless-verdict (limitWithin (g .limits .deviation) greatestDeviation) 4 (omega arith) (omega arith)
-    (unless-verdict (limitWithin (g .limits .spread) greatestSpread) 4 (omega arith) (omega arith)
+    let limits : Limits = limitsSaid (g .heading) in
+    first-verdict (headVerdict (length (job .groups)) (memberships (job .groups)) (g .heading .total) limits (length ms))
+    (membersVerdict (length (job .lows)) ms)
+    (unless-verdict (leb (g .heading .total) greatestTotal) 4 (omega arith) (omega arith)
+    (unless-verdict (limitWithin (limits .deviation) greatestDeviation) 4 (omega arith) (omega arith)
+    (unless-verdict (limitWithin (limits .spread) greatestSpread) 4 (omega arith) (omega arith)
+    (unless-verdict (limitWithin (limits .pairs) greatestPairs) 4 (omega arith) (omega arith)
     (unless-verdict (ltb (length (job .groups)) mostGroups) 6 (omega arith) (omega arith)
-    (unless-verdict (leb (memberships (job .groups) + length ms) mostMemberships) 6 (omega arith) (omega arith) (inl refl))))))
+    (unless-verdict (leb (memberships (job .groups) + length ms) mostMemberships) 6 (omega arith) (omega arith) (inl refl)))))))
     (unless-verdict (allNamed (length (job .lows)) ms) 8 (omega arith) (omega arith)
     (unless-verdict (distinct ms) 9 (omega arith) (omega arith) (inl refl)))
 

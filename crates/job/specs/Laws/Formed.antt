@@ -14,7 +14,7 @@ use Rattle.model.specs.declared.Limit.the-variants.{Any, AtMost}
 use Rattle.text.specs.Numbers.{printNumber}
 use Rattle.text.specs.Parsed.{word}
 use Rattle.job.specs.Form.{range, shut, Line, unit, group, unitEnding, deviationOpening, spreadOpening, membersOpening, groupEnding, space, anyWord}
-use Rattle.job.specs.Form.{printLimit, printMembers, printLine}
+use Rattle.job.specs.Form.{PairsLimit, unsaid, said, Heading, printLimit, printPairs, printMembers, printLine}
 use Rattle.job.specs.Job.{contains}
 use Rattle.job.specs.Laws.TextLines.{number-without, printed-one}
 
@@ -49,6 +49,13 @@ members-calm (m ∷ ms) opened closed few s =
     ∙ number-calm m opened closed few (printMembers ms ++ s)
     ∙ members-calm ms opened closed few s)
 
+-- the brackets from a spread limit's on are paired, with a pairs limit and without
+from-spread : (p : PairsLimit) (ms : List ℕ) → paired 3 1 (printPairs p ++ (membersOpening ++ (printMembers ms ++ groupEnding))) ≡ true
+unfolding printPairs paired
+from-spread unsaid ms = members-calm ms 4 2 (omega arith) groupEnding
+from-spread (said limit) ms =
+    limit-calm limit 4 2 (omega arith) (membersOpening ++ (printMembers ms ++ groupEnding)) ∙ members-calm ms 5 3 (omega arith) groupEnding
+
 -- the brackets of a line in the form are paired
 printed-paired : (l : Line) → paired 0 0 (printLine l) ≡ true
 unfolding printLine paired
@@ -56,13 +63,14 @@ printed-paired (unit (range low high)) =
     number-calm low 1 0 (omega arith) (space ++ (printNumber high ++ unitEnding)) ∙ number-calm high 1 0 (omega arith) unitEnding
 printed-paired (unit shut) = refl
 printed-paired (group g) =
-    let members = printMembers (g .first ∷ g .others) ++ groupEnding in
-    let spread = spreadOpening ++ (printLimit (g .limits .spread) ++ (membersOpening ++ members)) in
-    let deviation = deviationOpening ++ (printLimit (g .limits .deviation) ++ spread) in
-    number-calm (g .total) 1 0 (omega arith) deviation
-    ∙ limit-calm (g .limits .deviation) 2 0 (omega arith) spread
-    ∙ limit-calm (g .limits .spread) 3 1 (omega arith) (membersOpening ++ members)
-    ∙ members-calm (g .first ∷ g .others) 4 2 (omega arith) groupEnding
+    let h : Heading = g .heading in
+    let pairs = printPairs (h .pairs) ++ (membersOpening ++ (printMembers (g .first ∷ g .others) ++ groupEnding)) in
+    let spread = spreadOpening ++ (printLimit (h .spread) ++ pairs) in
+    let deviation = deviationOpening ++ (printLimit (h .deviation) ++ spread) in
+    number-calm (h .total) 1 0 (omega arith) deviation
+    ∙ limit-calm (h .deviation) 2 0 (omega arith) spread
+    ∙ limit-calm (h .spread) 3 1 (omega arith) pairs
+    ∙ from-spread (h .pairs) (g .first ∷ g .others)
 
 -- it begins with a name
 printed-named : (l : Line) → isNamed (printLine l) ≡ true

@@ -8,19 +8,17 @@ use native.Mathlib.Decide.{decLe}
 use borrow.Author.Tests.{le-leb, lt-leb, leb-true}
 use lib.Dec.{leb}
 use lib.ListN.{length, length-map}
-use Rattle.model.specs.Figures.{greatestDeviation, greatestSpread, limitWithin}
+use Rattle.model.specs.Figures.{greatestDeviation, greatestSpread, greatestPairs, limitWithin}
 use Rattle.model.specs.Shares.{greatestShare, greatestTotal}
 use Rattle.model.specs.declared.Limit.{Limit}
 use Rattle.model.specs.declared.Limit.the-variants.{Any, AtMost}
-use Rattle.model.specs.declared.Limits.{Limits}
 use Rattle.text.specs.Parsed.{Parsed, parsed, failed, andThen, mapped, orElse, word}
 use Rattle.text.specs.Laws.Parsed.{andThen-mapped, mapped-andThen, andThen-same, mapped-orElse}
 use Rattle.text.specs.Numbers.{numberAfter}
 use Rattle.text.specs.Inner.Numbers.{held, most}
-use Rattle.job.specs.declared.lines.Head.{Head}
 use Rattle.job.specs.Form.{UnitLine, range, shut, printShut, GroupLine, Line, unit, group, unitOpening, space, unitEnding, groupOpening, deviationOpening}
-use Rattle.job.specs.Form.{spreadOpening, membersOpening, groupEnding, anyWord}
-use Rattle.job.specs.Form.{numberAs, limitAs, rangeAs, unitAs, membersAs, headAs, grouped, groupAs, lineAs, line}
+use Rattle.job.specs.Form.{spreadOpening, pairsOpening, membersOpening, groupEnding, anyWord, PairsLimit, unsaid, said, pairsLimit, Heading, limitsSaid}
+use Rattle.job.specs.Form.{numberAs, limitAs, pairsAs, rangeAs, unitAs, membersAs, headAs, grouped, groupAs, lineAs, line}
 use Rattle.groups.specs.Memberships.{memberships}
 use Rattle.model.specs.Refusals.{unless}
 use Rattle.job.specs.Job.{Job, unitVerdict, headVerdict, membersVerdict, verdict, named, allNamed, add, stepOn, judged, distinct}
@@ -31,18 +29,20 @@ abbrev limitBy : (ℕ → ℕ) → Limit → Limit
 limitBy f Any = Any
 limitBy f (AtMost v) = AtMost (f v)
 
-abbrev limitsBy : (ℕ → ℕ) → Limits → Limits
-limitsBy f l = record { deviation = limitBy f (l .deviation); spread = limitBy f (l .spread) }
+abbrev pairsBy : (ℕ → ℕ) → PairsLimit → PairsLimit
+pairsBy f unsaid = unsaid
+pairsBy f (said limit) = said (limitBy f limit)
 
 abbrev unitBy : (ℕ → ℕ) → UnitLine → UnitLine
 unitBy f (range low high) = range (f low) (f high)
 unitBy f shut = shut
 
-abbrev headBy : (ℕ → ℕ) → Head → Head
-headBy f h = record { total = f (h .total); limits = limitsBy f (h .limits) }
+abbrev headBy : (ℕ → ℕ) → Heading → Heading
+headBy f h =
+    record { total = f (h .total); deviation = limitBy f (h .deviation); spread = limitBy f (h .spread); pairs = pairsBy f (h .pairs) }
 
 abbrev groupBy : (ℕ → ℕ) → GroupLine → GroupLine
-groupBy f g = record { total = f (g .total); limits = limitsBy f (g .limits); first = f (g .first); others = map f (g .others) }
+groupBy f g = record { heading = headBy f (g .heading); first = f (g .first); others = map f (g .others) }
 
 -- a line with its numbers by a function of them
 unfoldable pub lineBy : (ℕ → ℕ) → Line → Line
@@ -83,6 +83,16 @@ module _ (f : ℕ → ℕ) where
         number-by [] s,
       ) (ap (λ p. orElse (mapped (λ u. Any) (word anyWord s)) p) (sym (mapped-twice f AtMost (numberAs same [] s)))))
 
+  pairs-by : (s : List ℕ) → pairsAs f s ≡ mapped (pairsBy f) (pairsAs same s)
+  unfolding pairsAs mapped
+  pairs-by s =
+      rw (
+        mapped-orElse,
+        ← mapped-twice said (pairsBy f) (limitAs same pairsOpening s),
+        limit-by pairsOpening s,
+        ← mapped-twice (limitBy f) said (limitAs same pairsOpening s),
+      )
+
   range-by : (s : List ℕ) → rangeAs f s ≡ mapped (unitBy f) (rangeAs same s)
   unfolding rangeAs
   range-by s =
@@ -110,10 +120,11 @@ module _ (f : ℕ → ℕ) where
       carried f (headBy f) (numberAs same groupOpening s) _ _ (number-by groupOpening s)
       (λ total s. carried (limitBy f) (headBy f) (limitAs same deviationOpening s) _ _ (limit-by deviationOpening s)
       (λ deviation s. carried (limitBy f) (headBy f) (limitAs same spreadOpening s) _ _ (limit-by spreadOpening s)
-      (λ spread s. mapped-twice (λ u. record { total = total; limits = record { deviation = deviation; spread = spread } }) (headBy f)
-      (word membersOpening s))))
+      (λ spread s. carried (pairsBy f) (headBy f) (pairsAs same s) _ _ (pairs-by s)
+      (λ pairs s. mapped-twice (λ u. record { total = total; deviation = deviation; spread = spread; pairs = pairs }) (headBy f)
+      (word membersOpening s)))))
 
-  grouped-by : (h : Head) (ms s : List ℕ) → grouped (headBy f h) (map f ms) s ≡ mapped (groupBy f) (grouped h ms s)
+  grouped-by : (h : Heading) (ms s : List ℕ) → grouped (headBy f h) (map f ms) s ≡ mapped (groupBy f) (grouped h ms s)
   unfolding grouped mapped
   grouped-by h [] s = refl
   grouped-by h (m ∷ ms) s = refl
@@ -170,6 +181,14 @@ limit-kept : (most′ : ℕ) (l : Limit) → most′ < most → limitWithin l mo
 limit-kept most′ Any h e = refl
 limit-kept most′ (AtMost v) h e = let p = leb-true v most′ e in ap AtMost (omega arith)
 
+pairs-held : (most′ : ℕ) (p : PairsLimit) → most′ < most → limitWithin (pairsLimit (pairsBy held p)) most′ ≡ limitWithin (pairsLimit p) most′
+pairs-held most′ unsaid h = refl
+pairs-held most′ (said limit) h = limit-held most′ limit h
+
+pairs-kept : (most′ : ℕ) (p : PairsLimit) → most′ < most → limitWithin (pairsLimit p) most′ ≡ true → pairsBy held p ≡ p
+pairs-kept most′ unsaid h e = refl
+pairs-kept most′ (said limit) h e = ap said (limit-kept most′ limit h e)
+
 members-held : (units : ℕ) (ms : List ℕ) → units < most → membersVerdict units (map held ms) ≡ membersVerdict units ms
 unfolding membersVerdict
 members-held units ms h = rw (all-held units ms h) (by-named (allNamed units ms) refl)
@@ -195,14 +214,15 @@ unit-held units groups (range low high) =
       | no p ↦ rw (held-leb low greatestShare (omega arith), lt-leb low greatestShare (omega arith))
     ]
 
-head-held : (groups taken total : ℕ) (limits : Limits) (count : ℕ)
-    → headVerdict groups taken (held total) (limitsBy held limits) count ≡ headVerdict groups taken total limits count
+head-held : (groups taken : ℕ) (h : Heading) (count : ℕ)
+    → headVerdict groups taken (held (h .total)) (limitsSaid (headBy held h)) count ≡ headVerdict groups taken (h .total) (limitsSaid h) count
 unfolding headVerdict
-head-held groups taken total limits count =
+head-held groups taken h count =
     rw (
-      held-leb total greatestTotal (omega arith),
-      limit-held greatestDeviation (limits .deviation) (omega arith),
-      limit-held greatestSpread (limits .spread) (omega arith),
+      held-leb (h .total) greatestTotal (omega arith),
+      limit-held greatestDeviation (h .deviation) (omega arith),
+      limit-held greatestSpread (h .spread) (omega arith),
+      pairs-held greatestPairs (h .pairs) (omega arith),
     )
 
 verdict-held : (job : Job) (l : Line) → length (job .lows) < most → verdict job (lineBy held l) ≡ verdict job l
@@ -212,7 +232,7 @@ verdict-held job (group g) h =
     rw (
       members-held (length (job .lows)) (g .first ∷ g .others) h,
       length-map (g .others) held,
-      head-held (length (job .groups)) (memberships (job .groups)) (g .total) (g .limits) (suc (length (g .others))),
+      head-held (length (job .groups)) (memberships (job .groups)) (g .heading) (suc (length (g .others))),
     )
 
 line-kept : (job : Job) (l : Line) → length (job .lows) < most → verdict job l ≡ 0 → lineBy held l ≡ l
@@ -223,17 +243,19 @@ line-kept job (unit (range low high)) h e =
     let a : held low ≡ low = omega (arith, g .low-fits) in
     let b : held high ≡ high = omega (arith, g .high-fits) in
     rw (a, b)
-line-kept job (group g) h e =
+line-kept job (group g) few e =
     let z = first-zero _ _ e in
-    let k = head-good _ _ (g .total) (g .limits) _ (z .0) in
-    let m = named-held _ (g .first ∷ g .others) h (members-good _ _ (z .1) .all-named) in
-    let t : held (g .total) ≡ g .total = omega (arith, k .total-fits) in
+    let h : Heading = g .heading in
+    let k = head-good _ _ (h .total) (limitsSaid h) _ (z .0) in
+    let m = named-held _ (g .first ∷ g .others) few (members-good _ _ (z .1) .all-named) in
+    let t : held (h .total) ≡ h .total = omega (arith, k .total-fits) in
     let f : held (g .first) ≡ g .first = cc in
     let o : map held (g .others) ≡ g .others = cc in
     rw (
       t,
-      limit-kept greatestDeviation (g .limits .deviation) (omega arith) (k .deviation-fits),
-      limit-kept greatestSpread (g .limits .spread) (omega arith) (k .spread-fits),
+      limit-kept greatestDeviation (h .deviation) (omega arith) (k .deviation-fits),
+      limit-kept greatestSpread (h .spread) (omega arith) (k .spread-fits),
+      pairs-kept greatestPairs (h .pairs) (omega arith) (k .pairs-fits),
       f,
       o,
     )

@@ -11,6 +11,7 @@ use Rattle.job.specs.declared.lines.Head.{Head}
 use Rattle.job.specs.declared.lines.Members.{Members}
 use Rattle.job.specs.declared.steps.Progress.{Progress}
 use Rattle.model.specs.Refusals.{unless}
+use Rattle.job.specs.Form.{limitsSaid}
 use Rattle.job.specs.Job.{firstRefusal, headVerdict, membersVerdict, allNamed, distinct, memberOf}
 use Rattle.job.specs.Inner.Placed.{headNumber, groupNumber, Placed}
 use Rattle.job.specs.Laws.Distinct.{distinct-members, members-below}
@@ -64,7 +65,7 @@ module _ (p : Progress) (head : Head) (m : Members) {flat flat′ s r : List ℕ
 
   -- the verdict on what is stored is the verdict on the line
   pub placed-number : groupNumber p head m flat′ (membersFrom p)
-      ≡ firstRefusal (headVerdict (p .groups) (p .memberships) (f .line .total) (f .line .limits) (length (numbersOf (f .line))))
+      ≡ firstRefusal (headVerdict (p .groups) (p .memberships) (f .line .heading .total) (limitsSaid (f .line .heading)) (length (numbersOf (f .line))))
       (membersVerdict (p .units) (numbersOf (f .line)))
   unfolding groupNumber
   placed-number =

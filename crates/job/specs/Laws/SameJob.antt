@@ -10,7 +10,7 @@ use Rattle.model.specs.Groups.{Group}
 use Rattle.job.specs.Accepting.{Takes}
 use Rattle.groups.specs.Memberships.{memberships}
 use Rattle.groups.specs.Laws.Storing.{memberships-snoc}
-use Rattle.job.specs.Form.{lineLow, lineHigh, lineMark, GroupLine, Line, unit, group}
+use Rattle.job.specs.Form.{lineLow, lineHigh, lineMark, limitsSaid, GroupLine, Line, unit, group}
 use Rattle.job.specs.Job.{Job, groupOf, membersVerdict, verdict, add}
 use Rattle.job.specs.Laws.Verdicts.{HeadGood, first-zero, head-good, good-head}
 use Rattle.job.specs.SameJob.{SameButOrder}
@@ -75,13 +75,14 @@ takes-same same (Takes.also l is good rest) =
 
 -- a group line's head has no refusal after a job's lines
 abbrev pub HeadFits : Job → GroupLine → Type 0
-HeadFits job g = HeadGood (length (job .groups)) (memberships (job .groups)) (g .total) (g .limits) (length (g .first ∷ g .others))
+HeadFits job g =
+    HeadGood (length (job .groups)) (memberships (job .groups)) (g .heading .total) (limitsSaid (g .heading)) (length (g .first ∷ g .others))
 
 -- a group line without a refusal has a good head and good members
 group-good : (job : Job) (g : GroupLine) → verdict job (group g) ≡ 0
     → HeadFits job g × (membersVerdict (length (job .lows)) (g .first ∷ g .others) ≡ 0)
 unfolding verdict
-group-good job g h = let z = first-zero _ _ h in (head-good _ _ (g .total) (g .limits) _ (z .0), z .1)
+group-good job g h = let z = first-zero _ _ h in (head-good _ _ (g .heading .total) (limitsSaid (g .heading)) _ (z .0), z .1)
 
 -- and a group line with both has no refusal
 pub good-group : (job : Job) (g : GroupLine) → HeadFits job g → membersVerdict (length (job .lows)) (g .first ∷ g .others) ≡ 0
@@ -106,6 +107,7 @@ module _ (job : Job) (g h : GroupLine) (first-good : verdict job (group g) ≡ 0
         total-fits = b .total-fits;
         deviation-fits = b .deviation-fits;
         spread-fits = b .spread-fits;
+        pairs-fits = b .pairs-fits;
         room = a .room;
         fits = omega (arith, taken-with job g, b .fits);
       }) members
@@ -120,6 +122,7 @@ module _ (job : Job) (g h : GroupLine) (first-good : verdict job (group g) ≡ 0
         total-fits = a .total-fits;
         deviation-fits = a .deviation-fits;
         spread-fits = a .spread-fits;
+        pairs-fits = a .pairs-fits;
         room = omega (arith, length-append (job .groups) (groupOf g ∷ []), length-append (job .groups) (groupOf h ∷ []), b .room);
         fits = omega (arith, taken-with job g, taken-with job h, b .fits);
       }) members

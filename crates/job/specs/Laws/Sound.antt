@@ -11,9 +11,11 @@ use lib.ListN.{length, length-append, length-map}
 use Rattle.model.specs.Shares.{pick, greatestShare, Ranges, none as no-ranges, also as and-range}
 use Rattle.model.specs.Running.{Marked}
 use Rattle.model.specs.Groups.{Group}
+use Rattle.model.specs.declared.Limit.the-variants.{Any}
 use Rattle.text.specs.Parsed.{Parsed, parsed, failed}
-use Rattle.job.specs.Form.{UnitLine, range, shut, lineLow, lineHigh, lineMark, Line, unit, group, line}
+use Rattle.job.specs.Form.{UnitLine, range, shut, lineLow, lineHigh, lineMark, PairsLimit, unsaid, said, pairsLimit, isSaid, limitsSaid, Line, unit, group, line}
 use Rattle.groups.specs.Memberships.{memberships}
+use Rattle.groups.specs.Laws.Reading.{AllUnsaidAny}
 use Rattle.groups.specs.Laws.Storing.{memberships-snoc}
 use Rattle.job.specs.Job.{Job, mostBytes, groupOf, verdict, add, placeOf, judged, LineStep, next, stop, stepOn, JobOrRefusal, accepted, refused}
 use Rattle.job.specs.Job.{onward, readLines, noLines, someUnit, readJob}
@@ -40,6 +42,16 @@ no-groups : (n : ℕ) (gs : List Group) → length gs ≡ 0 → AcceptedGroups n
 no-groups n [] h = none
 no-groups n (g ∷ gs) h = absurd (omega arith)
 
+-- a pairs limit that is not there is any
+unsaid-is-any : (p : PairsLimit) → isSaid p ≡ false → pairsLimit p ≡ Any
+unsaid-is-any unsaid missing = refl
+unsaid-is-any (said limit) missing = absurd (let z : _≡_ {A = ℕ} 0 1 = cc in omega arith)
+
+-- in every group of an accepted job
+pub all-unsaid-any : {units : ℕ} {gs : List Group} → AcceptedGroups units gs → AllUnsaidAny gs
+all-unsaid-any none = AllUnsaidAny.none
+all-unsaid-any (also good others) = AllUnsaidAny.also (good .unsaid-any) (all-unsaid-any others)
+
 -- a line taken keeps it so
 built-on : (job : Job) (l : Line) → Built job → verdict job l ≡ 0 → Built (add job l)
 unfolding verdict add
@@ -55,7 +67,7 @@ built-on job (unit u) b e =
     }
 built-on job (group g) b e =
     let z = first-zero _ _ e in
-    let k = head-good _ _ (g .total) (g .limits) _ (z .0) in
+    let k = head-good _ _ (g .heading .total) (limitsSaid (g .heading)) _ (z .0) in
     let m = members-good _ (g .first ∷ g .others) (z .1) in
     record {
       ranges = b .ranges;
@@ -69,6 +81,8 @@ built-on job (group g) b e =
             total-fits = k .total-fits;
             deviation-fits = k .deviation-fits;
             spread-fits = k .spread-fits;
+            pairs-fits = k .pairs-fits;
+            unsaid-any = unsaid-is-any (g .heading .pairs);
             sound = record {
               some = omega arith;
               named = record {

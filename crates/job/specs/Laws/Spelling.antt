@@ -11,10 +11,9 @@ use Rattle.text.specs.Parsed.{parsed, failed, andThen, mapped, orElse, word}
 use Rattle.text.specs.Laws.Parsed.{then-parsed, mapped-parsed, either-parsed, word-parsed, word-own}
 use Rattle.text.specs.Numbers.{numberAfter, printNumber}
 use Rattle.text.specs.Laws.Printed.{NoDigitNext, number-printed, printed-number, number-not-word}
-use Rattle.job.specs.declared.lines.Head.{Head}
 use Rattle.job.specs.Form.{UnitLine, range, shut, printShut, GroupLine, Line, unit, group, unitOpening, unitEnding, groupOpening, deviationOpening, spreadOpening}
-use Rattle.job.specs.Form.{membersOpening, anyWord, space, groupEnding, printLimit, printMembers, printLine}
-use Rattle.job.specs.Form.{numberAs, limitAs, rangeAs, unitAs, membersAs, headAs, grouped, groupAs, lineAs, line}
+use Rattle.job.specs.Form.{pairsOpening, membersOpening, anyWord, space, groupEnding, printLimit, printPairs, printMembers, printLine}
+use Rattle.job.specs.Form.{PairsLimit, unsaid, said, Heading, numberAs, limitAs, pairsAs, rangeAs, unitAs, membersAs, headAs, grouped, groupAs, lineAs, line}
 
 -- the number as it is
 abbrev same : ℕ → ℕ
@@ -33,6 +32,17 @@ read-limit w (AtMost v) s h =
       number-not-word 97 (110 ∷ 121 ∷ []) (printNumber v ++ s) v s refl (number-printed v s h),
       read-number [] v s h,
     )
+
+read-pairs : (p : PairsLimit) (s : List ℕ) → pairsAs same (printPairs p ++ (membersOpening ++ s)) ≡ parsed p (membersOpening ++ s)
+unfolding pairsAs limitAs printPairs andThen orElse mapped word NoDigitNext
+read-pairs unsaid s = refl
+read-pairs (said limit) s = rw (read-limit pairsOpening limit (membersOpening ++ s) refl)
+
+-- what is ahead of a pairs limit or of the members is no digit
+pairs-end : (p : PairsLimit) (s : List ℕ) → NoDigitNext (printPairs p ++ (membersOpening ++ s))
+unfolding printPairs NoDigitNext
+pairs-end unsaid s = refl
+pairs-end (said limit) s = refl
 
 no-member : (s : List ℕ) → numberAs same space (41 ∷ s) ≡ failed
 unfolding numberAs numberAfter andThen mapped word
@@ -79,14 +89,16 @@ read-group g s =
     let ms : List ℕ = g .first ∷ g .others in
     let e : List ℕ = 41 ∷ 10 ∷ s in
     let t₃ : List ℕ = printMembers ms ++ 41 ∷ e in
-    let t₂ : List ℕ = membersOpening ++ t₃ in
-    let t₁ : List ℕ = spreadOpening ++ (printLimit (g .limits .spread) ++ t₂) in
-    let t₀ : List ℕ = deviationOpening ++ (printLimit (g .limits .deviation) ++ t₁) in
+    let h : Heading = g .heading in
+    let t₂ : List ℕ = printPairs (h .pairs) ++ (membersOpening ++ t₃) in
+    let t₁ : List ℕ = spreadOpening ++ (printLimit (h .spread) ++ t₂) in
+    let t₀ : List ℕ = deviationOpening ++ (printLimit (h .deviation) ++ t₁) in
     simp append-assoc
     (rw (
-      read-number groupOpening (g .total) t₀ refl,
-      read-limit deviationOpening (g .limits .deviation) t₁ refl,
-      read-limit spreadOpening (g .limits .spread) t₂ refl,
+      read-number groupOpening (h .total) t₀ refl,
+      read-limit deviationOpening (h .deviation) t₁ refl,
+      read-limit spreadOpening (h .spread) t₂ (pairs-end (h .pairs) t₃),
+      read-pairs (h .pairs) t₃,
       read-members (length t₃) ms e (members-long ms (41 ∷ e)),
     ))
 
@@ -119,6 +131,14 @@ printed-bound s h =
 printed-limit : (w s : List ℕ) {l : Limit} {r : List ℕ} → limitAs same w s ≡ parsed l r → s ≡ w ++ (printLimit l ++ r)
 unfolding limitAs
 printed-limit w s h = let a = then-parsed (word w s) _ h in on w (word-parsed w s (a .2)) (printed-bound (a .1) (a .3))
+
+printed-pairs : (s : List ℕ) {p : PairsLimit} {r : List ℕ} → pairsAs same s ≡ parsed p r → s ≡ printPairs p ++ r
+unfolding pairsAs printPairs
+printed-pairs s {p} {r} h =
+    ⊎-elim
+    (λ e. let m = mapped-parsed said (limitAs same pairsOpening s) e in rw (← m .2) (printed-limit pairsOpening s (m .1)))
+    (λ e. let i : unsaid ≡ p = cc in let k : s ≡ r = cc in rw (← i, k))
+    (either-parsed (mapped said (limitAs same pairsOpening s)) (parsed unsaid s) h)
 
 printed-members : (n : ℕ) (s : List ℕ) {ms : List ℕ} {r : List ℕ} → membersAs same n s ≡ parsed ms r → s ≡ printMembers ms ++ r
 unfolding membersAs printMembers
@@ -160,28 +180,30 @@ printed-unit s h =
     (λ e. printed-range s e)
     (either-parsed (mapped (λ u. shut) (word printShut s)) (rangeAs same s) h)
 
-printed-head : (s : List ℕ) {h : Head} {r : List ℕ} → headAs same s ≡ parsed h r
-    → s ≡ groupOpening ++ (printNumber (h .total) ++ (deviationOpening ++ (printLimit (h .limits .deviation)
-    ++ (spreadOpening ++ (printLimit (h .limits .spread) ++ (membersOpening ++ r))))))
+printed-head : (s : List ℕ) {h : Heading} {r : List ℕ} → headAs same s ≡ parsed h r
+    → s ≡ groupOpening ++ (printNumber (h .total) ++ (deviationOpening ++ (printLimit (h .deviation)
+    ++ (spreadOpening ++ (printLimit (h .spread) ++ (printPairs (h .pairs) ++ (membersOpening ++ r)))))))
 unfolding headAs
 printed-head s {h} {r} k =
     let a = then-parsed (numberAs same groupOpening s) _ k in
     let b = then-parsed (limitAs same deviationOpening (a .1)) _ (a .3) in
     let c = then-parsed (limitAs same spreadOpening (b .1)) _ (b .3) in
-    let e = mapped-parsed _ (word membersOpening (c .1)) (c .3) in
+    let d = then-parsed (pairsAs same (c .1)) _ (c .3) in
+    let e = mapped-parsed _ (word membersOpening (d .1)) (d .3) in
     rw (← e .2)
     (printed-numberAs groupOpening s (a .2)
     ∙ ap (λ l. groupOpening ++ (printNumber (a .0) ++ l)) (printed-limit deviationOpening (a .1) (b .2)
     ∙ ap (λ l. deviationOpening ++ (printLimit (b .0) ++ l)) (printed-limit spreadOpening (b .1) (c .2)
-    ∙ ap (λ l. spreadOpening ++ (printLimit (c .0) ++ l)) (word-parsed membersOpening (c .1) (e .1)))))
+    ∙ ap (λ l. spreadOpening ++ (printLimit (c .0) ++ l)) (printed-pairs (c .1) (d .2)
+    ∙ ap (λ l. printPairs (d .0) ++ l) (word-parsed membersOpening (d .1) (e .1))))))
 
-printed-grouped : (h : Head) (ms s : List ℕ) {g : GroupLine} {r : List ℕ} → grouped h ms s ≡ parsed g r
-    → (h .total ≡ g .total) × (h .limits ≡ g .limits) × (ms ≡ g .first ∷ g .others) × (s ≡ r)
+printed-grouped : (h : Heading) (ms s : List ℕ) {g : GroupLine} {r : List ℕ} → grouped h ms s ≡ parsed g r
+    → (h ≡ g .heading) × (ms ≡ g .first ∷ g .others) × (s ≡ r)
 unfolding grouped
 printed-grouped h [] s k = absurd (let z : _≡_ {A = ℕ} 0 1 = cc in omega arith)
 printed-grouped h (m ∷ ms) s {g} {r} k =
-    let e : record { total = h .total; limits = h .limits; first = m; others = ms } ≡ g = cc in
-    (ap (λ g. g .total) e, ap (λ g. g .limits) e, rw (← e), cc)
+    let e : record { heading = h; first = m; others = ms } ≡ g = cc in
+    (ap (λ g. g .heading) e, rw (← e), cc)
 
 printed-group : (s : List ℕ) {g : GroupLine} {r : List ℕ} → groupAs same s ≡ parsed g r → s ≡ printLine (group g) ++ r
 unfolding groupAs printLine
@@ -190,11 +212,11 @@ printed-group s {g} {r} h =
     let b = then-parsed (membersAs same (length (a .1)) (a .1)) _ (a .3) in
     let c = then-parsed (word groupEnding (b .1)) _ (b .3) in
     let d = printed-grouped (a .0) (b .0) (c .1) (c .3) in
-    let ending : c .1 ≡ r = d .3 in
+    let ending : c .1 ≡ r = d .2 in
     let members : a .1 ≡ printMembers (b .0) ++ (groupEnding ++ r) =
     on (printMembers (b .0)) (printed-members (length (a .1)) (a .1) (b .2)) (on groupEnding (word-parsed groupEnding (b .1) (c .2)) ending) in
     simp append-assoc
-    (printed-head s (a .2) ∙ rw (d .0, d .1, members, d .2))
+    (printed-head s (a .2) ∙ rw (d .0, members, d .1))
 
 -- what reads as a line was printed so
 pub printed-line : (s : List ℕ) {l : Line} {r : List ℕ} → line s ≡ parsed l r → s ≡ printLine l ++ r

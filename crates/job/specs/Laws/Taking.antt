@@ -1,5 +1,6 @@
 -- Taking a line: the code's tests and stores do to its lists what the line does to the job. Assumes nothing.
 use Prim.Native.Nat.{ℕ, zero, suc, _+_, _≤_, _<_}
+use mathlib.Core.Bool.{Bool}
 use mathlib.Core.List.{List, [], _∷_, _++_, map}
 use mathlib.Core.Path.{_≡_, refl, sym, ap, _∙_}
 use native.Mathlib.Omega.{arith}
@@ -8,7 +9,7 @@ use lib.Seq.{sets}
 use Rattle.model.specs.declared.Limits.{Limits}
 use Rattle.text.specs.Parsed.{parsed, failed, mapped, orElse}
 use Rattle.text.specs.Inner.Numbers.{held}
-use Rattle.job.specs.Form.{UnitLine, range, lineLow, lineHigh, lineMark, GroupLine, unit, group, unitAs, groupAs, lineAs, line}
+use Rattle.job.specs.Form.{UnitLine, range, lineLow, lineHigh, lineMark, isSaid, Heading, limitsSaid, GroupLine, unit, group, unitAs, groupAs, lineAs, line}
 use Rattle.job.specs.Laws.HeldAlike.{step-held}
 use Rattle.groups.specs.Inner.Flat.{mostFlat, marksFrom, marksIn, headLength, headOf, flatGroup, flatten, flatLength}
 use Rattle.groups.specs.Laws.Marks.{marks-behind, mark-behind, sets-snoc, marks-more}
@@ -108,7 +109,7 @@ module _ (job : Job) (p : Progress) (l : Lists) (holds : ReadSoFar job p l) wher
 
 module _ (job : Job) (p : Progress) (l : Lists) (holds : ReadSoFar job p l) (g : GroupLine) where
   abbrev headNumber : ℕ
-  headNumber = headVerdict (p .groups) (p .memberships) (g .total) (g .limits) (length (numbersOf g))
+  headNumber = headVerdict (p .groups) (p .memberships) (g .heading .total) (limitsSaid (g .heading)) (length (numbersOf g))
 
   abbrev groupVerdict : ℕ
   groupVerdict = firstRefusal headNumber (membersVerdict (p .units) (numbersOf g))
@@ -137,7 +138,7 @@ module _ (job : Job) (p : Progress) (l : Lists) (holds : ReadSoFar job p l) (g :
 
   fits : headNumber ≡ 0 → mostFlat ≤ length (l .flat) → start + headLength + length (numbersOf g) ≤ length marked
   fits e h =
-      let k = head-good _ _ (g .total) (g .limits) _ e in
+      let k = head-good _ _ (g .heading .total) (limitsSaid (g .heading)) _ e in
       omega (
         arith,
         k .room,
@@ -152,12 +153,13 @@ module _ (job : Job) (p : Progress) (l : Lists) (holds : ReadSoFar job p l) (g :
 
   -- the numbers of a group before its members
   abbrev pub headNumbers : List ℕ
-  headNumbers = headOf (g .total) (g .limits) (length (numbersOf g))
+  headNumbers = headOf (g .heading .total) (limitsSaid (g .heading)) (isSaid (g .heading .pairs)) (length (numbersOf g))
 
   flat-stored : headNumber ≡ 0 → mostFlat ≤ length (l .flat)
       → sets (sets (l .flat) (start + headLength) (map memberOf (numbersOf g))) start headNumbers
       ≡ flatten (job .groups ++ groupOf g ∷ []) ++ drop (flatLength (p .groups + 1) (p .memberships + length (numbersOf g))) marked
-  flat-stored e h =
+  flat-stored e room =
+      let h : Heading = g .heading in
       let ms : List ℕ = map memberOf (numbersOf g) in
       let n : length ms ≡ length (numbersOf g) = length-map (numbersOf g) memberOf in
       let before : length (flatten (job .groups)) ≡ start = length-flatten (job .groups) ∙ rw (holds .groups, holds .taken) in
@@ -165,8 +167,8 @@ module _ (job : Job) (p : Progress) (l : Lists) (holds : ReadSoFar job p l) (g :
       sym (flatten-snoc (job .groups) (groupOf g)) in
       let end : start + headLength + length ms ≡ flatLength (p .groups + 1) (p .memberships + length (numbersOf g)) = omega arith in
       ap (λ f. sets (sets f (start + headLength) ms) start headNumbers) (holds .flat)
-      ∙ ap (λ k. sets (sets (flatten (job .groups) ++ drop start marked) (start + headLength) ms) start (headOf (g .total) (g .limits) k)) (sym n)
-      ∙ stored (g .total) (g .limits) (length ms) ms (flatten (job .groups)) marked start before (omega (arith, fits e h))
+      ∙ ap (λ k. sets (sets (flatten (job .groups) ++ drop start marked) (start + headLength) ms) start (headOf (h .total) (limitsSaid h) (isSaid (h .pairs)) k)) (sym n)
+      ∙ stored (h .total) (limitsSaid h) (isSaid (h .pairs)) (length ms) ms (flatten (job .groups)) marked start before (omega (arith, fits e room))
       ∙ ap (λ f. f ++ drop (start + headLength + length ms) marked) whole
       ∙ ap (λ k. flatten (job .groups ++ groupOf g ∷ []) ++ drop k marked) end
 
@@ -174,7 +176,7 @@ module _ (job : Job) (p : Progress) (l : Lists) (holds : ReadSoFar job p l) (g :
   marks-stored : headNumber ≡ 0 → mostFlat ≤ length (l .flat)
       → marksIn (p .units) (sets (sets (l .flat) (start + headLength) (map memberOf (numbersOf g))) start headNumbers) ≡ job .marks
   marks-stored e h =
-      let k = head-good _ _ (g .total) (g .limits) _ e in
+      let k = head-good _ _ (g .heading .total) (limitsSaid (g .heading)) _ e in
       let n : length (map memberOf (numbersOf g)) ≡ length (numbersOf g) = length-map (numbersOf g) memberOf in
       let before : length (flatten (job .groups)) ≡ start = length-flatten (job .groups) ∙ rw (holds .groups, holds .taken) in
       let after : length (flatten (job .groups ++ groupOf g ∷ [])) ≡ flatLength (p .groups + 1) (p .memberships + length (numbersOf g)) =
@@ -193,7 +195,7 @@ module _ (job : Job) (p : Progress) (l : Lists) (holds : ReadSoFar job p l) (g :
       (record { lows₀ = l .lows₀; highs₀ = l .highs₀; flat₀ = l .flat₀; lows = l .lows; highs = l .highs; flat = flat })
   unfolding add
   group-holds count flat e h n s =
-      let k = head-good _ _ (g .total) (g .limits) _ e in
+      let k = head-good _ _ (g .heading .total) (limitsSaid (g .heading)) _ e in
       record {
         bounded = record { units = holds .bounded .units; groups = omega (arith, k .room); memberships = omega (arith, k .fits) };
         units = holds .units;
@@ -208,9 +210,9 @@ module _ (job : Job) (p : Progress) (l : Lists) (holds : ReadSoFar job p l) (g :
       }
 
 -- equal heads are stored alike
-pub heads-alike : (d : List ℕ) (at : ℕ) {t u : ℕ} {l k : Limits} {n m : ℕ} → t ≡ u → l ≡ k → n ≡ m
-    → sets d at (headOf t l n) ≡ sets d at (headOf u k m)
-heads-alike d at e f g = rw (e, f, g)
+pub heads-alike : (d : List ℕ) (at : ℕ) {t u : ℕ} {l k : Limits} {a b : Bool} {n m : ℕ} → t ≡ u → l ≡ k → a ≡ b → n ≡ m
+    → sets d at (headOf t l a n) ≡ sets d at (headOf u k b m)
+heads-alike d at e f g h = rw (e, f, g, h)
 
 -- a line that is no unit line is taken as a group line
 pub line-is-group : (job : Job) (p : Progress) (l : Lists) → ReadSoFar job p l → (s : List ℕ) → unitAs held s ≡ failed

@@ -11,10 +11,10 @@ use Rattle.text.specs.Laws.Parsed.{mapped-like, mapped-parsed}
 use Rattle.model.specs.Laws.Tests.{and-true, and-assoc}
 use Rattle.text.specs.Inner.Numbers.{held}
 use Rattle.text.specs.Laws.Printed.{number-after-shorter}
-use Rattle.job.specs.Form.{GroupLine, space, numberAs, membersAs, grouped, groupAs}
+use Rattle.job.specs.Form.{isSaid, Heading, limitsSaid, GroupLine, space, numberAs, membersAs, grouped, groupAs}
 use Rattle.job.specs.declared.lines.Head.{Head}
 use Rattle.job.specs.Job.{named, allNamed, memberOf}
-use Rattle.job.specs.Inner.Tally.{Tally, tallied, GroupTally, groupTally}
+use Rattle.job.specs.Inner.Tally.{Tally, tallied, keptHead, GroupTally, groupTally}
 
 -- one member more: stored from a place on, as far as there is room
 abbrev pub noted : ℕ → ℕ → Tally → ℕ → Tally
@@ -99,18 +99,19 @@ collect-next units from (suc n) t s m r l h =
     (n, omega arith, d, rw h (collect-first units from n (noted units from t m) r (parsed t s)))
 
 -- a line with no member is none
-pub grouped-none : (units from : ℕ) (flat : List ℕ) (h : Head) (ms s : List ℕ) (t : Tally) → tallied units from flat ms ≡ t → t .count ≡ 0
+pub grouped-none : (units from : ℕ) (flat : List ℕ) (h : Heading) (ms s : List ℕ) (t : Tally) → tallied units from flat ms ≡ t → t .count ≡ 0
     → grouped h ms s ≡ failed
 unfolding grouped tallied
 grouped-none units from flat h [] s t e z = refl
 grouped-none units from flat h (m ∷ ms) s t e z = absurd (omega (arith, ap (λ (t : Tally). t .count) e))
 
 -- a line with members is a group line
-pub grouped-some : (units from : ℕ) (flat : List ℕ) (h : Head) (ms s : List ℕ) (t : Tally) → tallied units from flat ms ≡ t → (t .count ≡ 0 → ⊥)
-    → mapped (groupTally units from flat) (grouped h ms s) ≡ parsed (record { head = h; tally = t }) s
+pub grouped-some : (units from : ℕ) (flat : List ℕ) (h : Heading) {head : Head} → keptHead h ≡ head → (ms s : List ℕ) (t : Tally)
+    → tallied units from flat ms ≡ t → (t .count ≡ 0 → ⊥)
+    → mapped (groupTally units from flat) (grouped h ms s) ≡ parsed (record { head = head; tally = t }) s
 unfolding grouped mapped tallied
-grouped-some units from flat h [] s t e n = absurd (n (sym (ap (λ (t : Tally). t .count) e)))
-grouped-some units from flat h (m ∷ ms) s t e n = rw (← e)
+grouped-some units from flat h kept [] s t e n = absurd (n (sym (ap (λ (t : Tally). t .count) e)))
+grouped-some units from flat h kept (m ∷ ms) s t e n = rw (← e, ← kept)
 
 -- the unit numbers of a group line
 abbrev pub numbersOf : GroupLine → List ℕ
@@ -120,8 +121,9 @@ numbersOf g = g .first ∷ g .others
 pub record GroupFacts (units from : ℕ) (flat flat′ s r : List ℕ) (head : Head) (count : ℕ) (within : Bool) : Type 0 where
   pub line : GroupLine
   pub read : groupAs held s ≡ parsed line r
-  pub total : line .total ≡ head .total
-  pub limits : line .limits ≡ head .limits
+  pub total : line .heading .total ≡ head .total
+  pub limits : limitsSaid (line .heading) ≡ head .limits
+  pub there : isSaid (line .heading .pairs) ≡ head .«pairs_there»
   pub counted : length (numbersOf line) ≡ count
   pub all-within : allNamed units (numbersOf line) ≡ within
   pub stored : flat′ ≡ sets flat from (map memberOf (numbersOf line))
@@ -140,6 +142,7 @@ group-facts units from flat flat′ s r head count within h =
       read = m .1;
       total = ap (λ (g : GroupTally). g .head .total) (m .2);
       limits = ap (λ (g : GroupTally). g .head .limits) (m .2);
+      there = ap (λ (g : GroupTally). g .head .«pairs_there») (m .2);
       counted = ap (λ (t : Tally). t .count) t;
       all-within = ap (λ (t : Tally). t .within) t;
       stored = sym (ap (λ (t : Tally). t .flat) t);

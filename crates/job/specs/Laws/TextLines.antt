@@ -17,7 +17,7 @@ use Rattle.model.specs.declared.Limit.the-variants.{Any, AtMost}
 use Rattle.text.specs.Numbers.{printNumber}
 use Rattle.text.specs.Laws.Printed.{print-one, print-more}
 use Rattle.job.specs.Form.{range, shut, printShut, Line, unit, group, unitOpening, groupOpening, deviationOpening, spreadOpening, membersOpening, space, anyWord}
-use Rattle.job.specs.Form.{printLimit, printMembers, printLine}
+use Rattle.job.specs.Form.{PairsLimit, unsaid, said, pairsOpening, printLimit, printPairs, printMembers, printLine}
 use Rattle.job.specs.Job.{contains}
 use Rattle.job.specs.TextLines.{ahead, linesOf}
 
@@ -111,6 +111,12 @@ unfolding printLimit contains
 limit-ahead Any one = line-ahead anyWord refl one
 limit-ahead (AtMost v) one = number-ahead v one
 
+-- a pairs limit
+pairs-ahead : (p : PairsLimit) {bytes : List ℕ} → OneLine bytes → OneLine (printPairs p ++ bytes)
+unfolding printPairs contains
+pairs-ahead unsaid one = one
+pairs-ahead (said limit) {bytes} one = line-ahead pairsOpening refl (limit-ahead limit one)
+
 -- members
 members-ahead : (ms : List ℕ) {bytes : List ℕ} → OneLine bytes → OneLine (printMembers ms ++ bytes)
 unfolding printMembers contains
@@ -128,10 +134,11 @@ printed-one (unit (range low high)) =
 printed-one (unit shut) = record { body = take 6 printShut; ended = refl; inside = refl }
 printed-one (group g) =
     line-ahead groupOpening refl
-    (number-ahead (g .total)
+    (number-ahead (g .heading .total)
     (line-ahead deviationOpening refl
-    (limit-ahead (g .limits .deviation)
+    (limit-ahead (g .heading .deviation)
     (line-ahead spreadOpening refl
-    (limit-ahead (g .limits .spread)
+    (limit-ahead (g .heading .spread)
+    (pairs-ahead (g .heading .pairs)
     (line-ahead membersOpening refl
-    (members-ahead (g .first ∷ g .others) (record { body = 41 ∷ 41 ∷ []; ended = refl; inside = refl }))))))))
+    (members-ahead (g .first ∷ g .others) (record { body = 41 ∷ 41 ∷ []; ended = refl; inside = refl })))))))))

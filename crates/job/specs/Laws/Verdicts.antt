@@ -6,8 +6,8 @@ use mathlib.Core.Path.{_≡_, refl}
 use native.Mathlib.Omega.{arith}
 use borrow.Author.Tests.{le-leb, lt-ltb, eq-eqb, leb-true, ltb-true, eqb-true}
 use lib.Dec.{leb, ltb, eqb}
-use Rattle.model.specs.Figures.{greatestDeviation, greatestSpread, limitWithin}
-use Rattle.groups.specs.Inner.Flat.{mostWord, Coded}
+use Rattle.model.specs.Figures.{greatestDeviation, greatestSpread, greatestPairs, limitWithin}
+use Rattle.groups.specs.Inner.Flat.{limitCode}
 use Rattle.model.specs.Laws.Refusals.{unless-zero}
 use Rattle.model.specs.Refusals.{unless}
 use Rattle.model.specs.Shares.{greatestShare, greatestTotal, mostUnits}
@@ -81,6 +81,7 @@ pub record HeadGood (groups taken total : ℕ) (limits : Limits) (count : ℕ) :
   pub total-fits : total ≤ greatestTotal
   pub deviation-fits : limitWithin (limits .deviation) greatestDeviation ≡ true
   pub spread-fits : limitWithin (limits .spread) greatestSpread ≡ true
+  pub pairs-fits : limitWithin (limits .pairs) greatestPairs ≡ true
   pub room : groups < mostGroups
   pub fits : taken + count ≤ mostMemberships
 
@@ -92,9 +93,17 @@ head-good groups taken total limits count h =
     let a = unless-zero (leb total greatestTotal) 3 _ h in
     let b = unless-zero (limitWithin (limits .deviation) greatestDeviation) 3 _ (a .1) in
     let c = unless-zero (limitWithin (limits .spread) greatestSpread) 3 _ (b .1) in
-    let d = unless-zero (ltb groups mostGroups) 5 _ (c .1) in
-    let e = unless-zero (leb (taken + count) mostMemberships) 5 _ (d .1) in
-    record { total-fits = leb-true _ _ (a .0); deviation-fits = b .0; spread-fits = c .0; room = ltb-true _ _ (d .0); fits = leb-true _ _ (e .0) }
+    let d = unless-zero (limitWithin (limits .pairs) greatestPairs) 3 _ (c .1) in
+    let e = unless-zero (ltb groups mostGroups) 5 _ (d .1) in
+    let f = unless-zero (leb (taken + count) mostMemberships) 5 _ (e .1) in
+    record {
+      total-fits = leb-true _ _ (a .0);
+      deviation-fits = b .0;
+      spread-fits = c .0;
+      pairs-fits = d .0;
+      room = ltb-true _ _ (e .0);
+      fits = leb-true _ _ (f .0);
+    }
 
 -- and a head that satisfies it all has the verdict 0
 pub good-head : {groups taken total : ℕ} {limits : Limits} {count : ℕ} → HeadGood groups taken total limits count
@@ -105,6 +114,7 @@ good-head {groups} {taken} {total} {limits} {count} h =
       le-leb total greatestTotal (h .total-fits),
       h .deviation-fits,
       h .spread-fits,
+      h .pairs-fits,
       lt-ltb groups mostGroups (h .room),
       le-leb (taken + count) mostMemberships (h .fits),
     )
@@ -122,7 +132,7 @@ members-good units ms h =
     let b = unless-zero (distinct ms) 8 _ (a .1) in
     record { all-named = a .0; all-distinct = b .0 }
 
--- a limit in range can be stored
-pub limit-coded : (most : ℕ) (l : Limit) → most < mostWord → limitWithin l most ≡ true → Coded l
-limit-coded most Any h e = omega arith
-limit-coded most (AtMost v) h e = omega (arith, leb-true v most e)
+-- the number that a limit in range is stored as
+pub limit-coded : (most : ℕ) (l : Limit) → limitWithin l most ≡ true → limitCode l ≤ most + 1
+limit-coded most Any e = omega arith
+limit-coded most (AtMost v) e = omega (arith, leb-true v most e)

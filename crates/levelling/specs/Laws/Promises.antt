@@ -7,7 +7,7 @@ use lib.Seq.{take-at, drop-at}
 use Rattle.model.specs.Levels.{levelled}
 use Rattle.model.specs.Laws.Level.{totalAt-least, level-share, level-holds, level-greatest}
 use Rattle.model.specs.Laws.Levelled.{shares-exist, levelled-within, levelled-adds}
-use Rattle.model.specs.Laws.Shut.{marked-least-deviation, marked-least-spread, marked-least-above}
+use Rattle.model.specs.Laws.Shut.{marked-least-deviation, marked-least-spread, marked-least-pairs, marked-least-above}
 use Rattle.model.specs.declared.Figures.{Figures}
 use Rattle.model.specs.declared.Refusal.{Refusal}
 use Rattle.model.specs.declared.Share.{Share}
@@ -38,6 +38,7 @@ module _ (lows highs marks : List ℕ) (total : ℕ) (plan : List ℕ) where
               adds = levelled-adds ranges total (between .0) (between .1);
               leastDeviation = λ xs. marked-least-deviation marked ranges total;
               leastSpread = λ xs. marked-least-spread marked ranges total;
+              leastPairs = λ xs. marked-least-pairs marked ranges total;
               leastAbove = λ xs. marked-least-above marked ranges total;
             });
         past = rw (drop-at (levelled lows highs total) (drop (length (levelled lows highs total)) plan) (length lows) many, many);

@@ -2,7 +2,7 @@
 use mathlib.Core.List.{[], _∷_, flatten}
 use mathlib.Core.Path.{_≡_, refl, ap, _∙_}
 use Rattle.model.specs.Shares.{sum, sumOf}
-use Rattle.model.specs.Figures.{deviation, spread}
+use Rattle.model.specs.Figures.{deviation, spread, pairs}
 use Rattle.model.specs.Levels.{clamped, totalAt, levelBelow, level, topped, remainder, levelled}
 use Rattle.text.specs.Words.{bytes}
 use Rattle.text.specs.Numbers.{digitsOf, printNumber}
@@ -14,7 +14,7 @@ use Rattle.works.specs.Resting.{runningGroups}
 use Rattle.levelling.specs.Tables.{widths, gather, scatter}
 use Rattle.works.specs.Settling.{narrowed, revise, passFrom, settleFrom, settle}
 use Rattle.works.specs.Known.{example, exampleTable}
-use Rattle.job.specs.Form.{printLimit, printMembers, printLine}
+use Rattle.job.specs.Form.{printLimit, printPairs, printMembers, printLine}
 use Rattle.job.specs.Job.{readLines, someUnit, readJob}
 use Rattle.job.specs.Laws.Worked.{workedLines, printLines, workedJob, worked-reads}
 use Rattle.report.specs.Lines.{groupLine, refusalLine}
@@ -23,7 +23,7 @@ use Rattle.report.specs.Reports.{unitLines, levelledLine, groupLines, re
 use Rattle.report.specs.Known.{exampleReport, exampleText}
 
 pub example-report : printed (0 ∷ 0 ∷ 0 ∷ []) example (settle (runningGroups (0 ∷ 0 ∷ 0 ∷ []) example) exampleTable) ≡ exampleReport
-unfolding running printed reportOf groupLines levelledLine unitLines groupLine printedLine form items item flatten printNumber digitsOf exampleReport example exampleTable settle settleFrom passFrom revise narrowed widths gather scatter sameList sum sumOf deviation spread clamped totalAt levelBelow level topped remainder levelled hasPlan turnOf firstUp firstDown narrowedLow narrowedHigh tabulate narrowedLows narrowedHighs
+unfolding running printed reportOf groupLines levelledLine unitLines groupLine printedLine form items item flatten printNumber digitsOf exampleReport example exampleTable settle settleFrom passFrom revise narrowed widths gather scatter sameList sum sumOf deviation spread pairs clamped totalAt levelBelow level topped remainder levelled hasPlan turnOf firstUp firstDown narrowedLow narrowedHigh tabulate narrowedLows narrowedHighs
 example-report = refl
 
 -- 01: "A refusal prints one line"
@@ -32,7 +32,7 @@ unfolding printedLine form items item flatten printNumber digitsOf
 example-refusal = refl
 
 example-lines : exampleText ≡ printLines workedLines
-unfolding exampleText flatten workedLines printLines printLine printLimit printMembers printNumber digitsOf
+unfolding exampleText flatten workedLines printLines printLine printLimit printPairs printMembers printNumber digitsOf
 example-lines = refl
 
 -- the program prints 01's report of 01's job text

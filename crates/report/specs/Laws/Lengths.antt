@@ -16,7 +16,8 @@ use Rattle.model.specs.Levels.{level, levelled}
 use Rattle.model.specs.Shares.{Ranges, Within, greatestTotal, mostUnits}
 use Rattle.model.specs.declared.Figures.{Figures}
 use Rattle.text.specs.Words.{bytes}
-use Rattle.model.specs.Laws.Bounds.{share-small, squares-small, deviation-small}
+use Rattle.model.specs.Laws.Bounds.{share-small, sum-small, squares-small, deviation-small}
+use Rattle.model.specs.Laws.Pairs.{pairs-small}
 use Rattle.model.specs.Sound.{SoundRanges, HasShares}
 use Rattle.model.specs.Laws.Sound.{running-sound, levelled-length, highs-small}
 use Rattle.groups.specs.Memberships.{memberships}
@@ -78,35 +79,38 @@ unit-lengths (Ranges.also {l} {h} {ls} {hs} p q ranges) number few =
 
 -- a group's line, with numbers of so many digits
 group-length : (number level : ℕ) (figures : Figures) (shares : List ℕ) → number < 10 ^ 2 → level < 10 ^ 7
-    → figures .deviation .0 < 10 ^ 11 → figures .spread .0 < 10 ^ 17 → ((i : ℕ) → i < length shares → getD shares i 0 < 10 ^ 7)
-    → length (groupLine number level figures shares) ≤ 56 + 8 * length shares
+    → figures .deviation .0 < 10 ^ 11 → figures .spread .0 < 10 ^ 17 → figures .pairs .0 < 10 ^ 11 → ((i : ℕ) → i < length shares → getD shares i 0 < 10 ^ 7)
+    → length (groupLine number level figures shares) ≤ 68 + 8 * length shares
 unfolding groupLine flatten
-group-length number level figures shares p q small-deviation small-spread small =
+group-length number level figures shares p q small-deviation small-spread small-pairs small =
     let d : ℕ = figures .deviation .0 in
     let s : ℕ = figures .spread .0 in
-    let opening : List ℕ = form (bytes "(group") (number ∷ level ∷ d ∷ s ∷ []) in
+    let g : ℕ = figures .pairs .0 in
+    let opening : List ℕ = form (bytes "(group") (number ∷ level ∷ d ∷ s ∷ g ∷ []) in
     let plan : List ℕ = form (bytes " (plan") shares in
     omega (
       arith,
       length-append opening (plan ++ bytes "))\n"),
       length-append plan (bytes "))\n"),
-      form-length (bytes "(group") (number ∷ level ∷ d ∷ s ∷ []),
+      form-length (bytes "(group") (number ∷ level ∷ d ∷ s ∷ g ∷ []),
       form-length (bytes " (plan") shares,
-      items-more number (level ∷ d ∷ s ∷ []),
-      items-more level (d ∷ s ∷ []),
-      items-more d (s ∷ []),
-      items-more s [],
+      items-more number (level ∷ d ∷ s ∷ g ∷ []),
+      items-more level (d ∷ s ∷ g ∷ []),
+      items-more d (s ∷ g ∷ []),
+      items-more s (g ∷ []),
+      items-more g [],
       items-none,
       item-length 1 number p,
       item-length 6 level q,
       item-length 10 d small-deviation,
       item-length 16 s small-spread,
+      item-length 10 g small-pairs,
       items-length 6 shares small,
     )
 
 -- a group's line as the report has it
 levelled-line-length : {lows highs marks : List ℕ} {total : ℕ} → Marked marks lows highs → HasShares lows highs total → (number : ℕ) → number < 10 ^ 2
-    → length (levelledLine number lows highs marks total) ≤ 56 + 8 * length lows
+    → length (levelledLine number lows highs marks total) ≤ 68 + 8 * length lows
 unfolding levelledLine spread
 levelled-line-length {lows} {highs} {marks} {total} marked shares number p =
     let xs : List ℕ = levelled lows highs total in
@@ -128,12 +132,13 @@ levelled-line-length {lows} {highs} {marks} {total} marked shares number p =
           (omega (arith, level-share lows highs total))
           (omega (arith, small))
           (omega (arith, mul-le-mul few (squares-small ran ran-within)))
+          (omega (arith, pairs-small (running marks xs), mul-le-mul few (sum-small ran ran-within)))
           (λ i h. omega (arith, share-small sound within i h)),
     )
 
 -- the group lines of fewer than 100 groups
 group-lengths : (marks : List ℕ) (table : Table) (groups : List Group) → AllLevelable marks table groups → (number : ℕ) → number + length groups < 10 ^ 2
-    → length (flatten (groupLines marks number table groups)) ≤ 56 * length groups + 8 * memberships groups
+    → length (flatten (groupLines marks number table groups)) ≤ 68 * length groups + 8 * memberships groups
 unfolding groupLines flatten memberships
 group-lengths marks table [] each number few = omega arith
 group-lengths marks table (group ∷ groups) each number few =

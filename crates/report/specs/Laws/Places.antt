@@ -25,7 +25,7 @@ line-past : (level : ℕ) (figures : Figures) (shares : List ℕ)
     → (past : List ℕ) × ((number : ℕ) → groupLine number level figures shares ≡ numbered number past)
 unfolding groupLine flatten
 line-past level figures shares = (
-  flatten (items (level ∷ figures .deviation .0 ∷ figures .spread .0 ∷ []) ∷ form (bytes " (plan") shares ∷ bytes "))\n" ∷ []),
+  flatten (items (level ∷ figures .deviation .0 ∷ figures .spread .0 ∷ figures .pairs .0 ∷ []) ∷ form (bytes " (plan") shares ∷ bytes "))\n" ∷ []),
   λ number. rw first-item (ap (λ (xs : List ℕ). bytes "(group" ++ xs) (append-assoc (item number) _ _)),
 )
 

@@ -8,7 +8,7 @@ use lib.ListN.{length, take, drop}
 use Rattle.job.specs.Job.{Job, mostBytes, readJob, accepted}
 use Rattle.job.specs.Inner.Reading.{GroupsScanned}
 use Rattle.job.specs.Laws.Reading.{accepted-by}
-use Rattle.job.specs.Laws.Sound.{accepted-sound}
+use Rattle.job.specs.Laws.Sound.{all-unsaid-any, accepted-sound}
 use Rattle.job.specs.declared.Reading.{Reading}
 use Rattle.job.specs.declared.Reading.the-variants.{Read}
 use Rattle.job.specs.declared.Reading.the-variants as job
@@ -69,7 +69,7 @@ module _ {text flat₀ flat : List ℕ} {answer : Reading} (scanned : GroupsScan
         lists =
             ap (λ (n : ℕ). groupsIn n flat) (sym few)
             ∙ ap (groupsIn (length (job .groups))) (scanned .found-flat job accepts)
-            ∙ flatten-groups (job .groups) _;
+            ∙ flatten-groups (all-unsaid-any (accepted-sound text job accepts .built .groups-sound)) _;
         shut = ap (λ (n : ℕ). marksIn n flat) (sym counts) ∙ scanned .found-marks job accepts;
         few = few;
       }

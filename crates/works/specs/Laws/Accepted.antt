@@ -11,7 +11,7 @@ use Rattle.job.specs.Job.{Job, accepted, readJob}
 use Rattle.job.specs.Inner.Reading.{GroupsScanned}
 use Rattle.job.specs.Laws.Reading.{accepted-by, refused-by}
 use Rattle.job.specs.Sound as job
-use Rattle.job.specs.Laws.Sound.{accepted-sound}
+use Rattle.job.specs.Laws.Sound.{all-unsaid-any, accepted-sound}
 use Rattle.job.specs.declared.Reading.{Reading}
 use Rattle.job.specs.declared.Reading.the-variants.{Read, Refused}
 use Rattle.model.specs.Groups.{Group}
@@ -53,7 +53,9 @@ module _ (text : List ℕ) (found : Job) (reads : readJob text ≡ accepted foun
           holds = rw (starts, ← lists) (flatten-holds (found .groups) rest);
           marked = omega (arith, built .few-units);
           few = omega (arith, built .few-units);
-          each = rw (starts, ← counts, ← lists, flatten-groups (found .groups) rest) (λ group member. each-sound (built .groups-sound) group member .named);
+          each =
+              rw (starts, ← counts, ← lists, flatten-groups (all-unsaid-any (built .groups-sound)) rest)
+              (λ group member. each-sound (built .groups-sound) group member .named);
         }
 
     -- its settling is that of the text
@@ -61,7 +63,8 @@ module _ (text : List ℕ) (found : Job) (reads : readJob text ≡ accepted foun
         → settleJob (marksIn count flat) (groupsIn listed flat) count lows highs scratch ≡ settleText text lows highs scratch
     unfolding settleText
     accepted-settles lows highs scratch =
-        rw (← counts, marks, starts, ← lists, flatten-groups (found .groups) rest, settleText, reads)
+        let any = all-unsaid-any (accepted-sound text found reads .built .groups-sound) in
+        rw (← counts, marks, starts, ← lists, flatten-groups any rest, settleText, reads)
 
 -- what scanning a text answers and leaves
 module _ {text flat₀ flat : List ℕ} {answer : Reading} (scanned : GroupsScanned text flat₀ flat answer) where

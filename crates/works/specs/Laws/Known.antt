@@ -8,7 +8,7 @@ use native.Mathlib.Omega.{arith}
 use lib.ListN.{getD}
 use Rattle.model.specs.Running.{running, Marked}
 use Rattle.model.specs.Shares.{Ranges, sum, sumOf}
-use Rattle.model.specs.Figures.{deviation, spread}
+use Rattle.model.specs.Figures.{deviation, spread, pairs}
 use Rattle.model.specs.Known.{known, isKnown, four, ten, three, sameList}
 use Rattle.model.specs.Levels.{clamped, totalAt, levelBelow, level, topped, remainder, levelled}
 use Rattle.model.specs.Plans.{hasPlan, turnOf, firstUp, firstDown, narrowedLow, narrowedHigh, tabulate, narrowedLows, narrowedHighs}
@@ -17,17 +17,17 @@ use Rattle.works.specs.Resting.{ShutOpening, AtRest}
 use Rattle.works.specs.Settling.{Outcome, narrowed, revise, passFrom, settleFrom, settle}
 use Rattle.levelling.specs.Tables.{widths, gather, scatter}
 use Rattle.works.specs.Laws.Resting.{settled-rest}
-use Rattle.works.specs.Known.{holdsJob, allJobs, pair, pairs, pairTable, example, exampleTable, knownJobs}
+use Rattle.works.specs.Known.{holdsJob, allJobs, pair, threePairs, pairTable, example, examplePairs, exampleTable, knownJobs}
 use Rattle.groups.specs.Memberships.{SoundGroup}
 
 -- every known share holds of the definitions
 pub known-jobs : allJobs knownJobs ≡ true
-unfolding allJobs holdsJob knownJobs pairs pairTable example exampleTable settle settleFrom passFrom revise narrowed widths gather scatter known isKnown four ten three sameList sum sumOf deviation spread clamped totalAt levelBelow level topped remainder levelled hasPlan turnOf firstUp firstDown narrowedLow narrowedHigh tabulate narrowedLows narrowedHighs
+unfolding allJobs holdsJob knownJobs threePairs pairTable example examplePairs exampleTable settle settleFrom passFrom revise narrowed widths gather scatter known isKnown four ten three sameList sum sumOf deviation spread pairs clamped totalAt levelBelow level topped remainder levelled hasPlan turnOf firstUp firstDown narrowedLow narrowedHigh tabulate narrowedLows narrowedHighs
 known-jobs = refl
 
 -- the three pairs settle in one pass, which leaves the opening table
-pub pairs-settle : settle pairs pairTable ≡ Outcome.settled pairTable 1
-unfolding pairs pairTable settle settleFrom passFrom revise narrowed widths gather scatter sameList sum sumOf deviation spread clamped totalAt levelBelow level topped remainder levelled hasPlan turnOf firstUp firstDown narrowedLow narrowedHigh tabulate narrowedLows narrowedHighs
+pub pairs-settle : settle threePairs pairTable ≡ Outcome.settled pairTable 1
+unfolding threePairs pairTable settle settleFrom passFrom revise narrowed widths gather scatter sameList sum sumOf deviation spread pairs clamped totalAt levelBelow level topped remainder levelled hasPlan turnOf firstUp firstDown narrowedLow narrowedHigh tabulate narrowedLows narrowedHighs
 pairs-settle = refl
 
 -- two different units are a sound group
@@ -53,8 +53,8 @@ none-or-one : {lows highs : List ℕ} → Ranges lows highs → Ranges (0 ∷ lo
 none-or-one ranges = Ranges.also {l = 0} {h = 1} (omega arith) (omega arith) ranges
 
 -- the three pairs and their table are sound, with no unit shut
-pub pairs-sound : ShutOpening (0 ∷ 0 ∷ 0 ∷ []) pairs pairTable
-unfolding pairs pairTable
+pub pairs-sound : ShutOpening (0 ∷ 0 ∷ 0 ∷ []) threePairs pairTable
+unfolding threePairs pairTable
 pairs-sound = record {
   valid = none-or-one (none-or-one (none-or-one Ranges.none));
   shut = Marked.run (Marked.run (Marked.run Marked.none));
@@ -67,13 +67,13 @@ pairs-sound = record {
 }
 
 -- 01: the three pairs are "at rest at the outset"
-pub pairs-consistent : AtRest (0 ∷ 0 ∷ 0 ∷ []) pairs pairTable
-unfolding pairs gather running
+pub pairs-consistent : AtRest (0 ∷ 0 ∷ 0 ∷ []) threePairs pairTable
+unfolding threePairs gather running
 pairs-consistent = settled-rest pairs-sound pairs-settle
 
 -- 01: "yet no shares suit all three"
-pub pairs-unsuited : (xs : List ℕ) → Suits pairs pairTable xs → ⊥
-unfolding pairs pairTable gather sum
+pub pairs-unsuited : (xs : List ℕ) → Suits threePairs pairTable xs → ⊥
+unfolding threePairs pairTable gather sum
 pairs-unsuited xs suits =
     omega (
       arith,

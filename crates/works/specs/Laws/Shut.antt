@@ -70,7 +70,7 @@ module _ (marks : List ℕ) (group : Group) where
   pub whole-group : ((unit : ℕ) → getD marks unit 0 ≡ 0) → runningGroup marks group ≡ group
   unfolding gather
   whole-group all =
-      ap (λ (members : List ℕ). record { total = group .total; limits = group .limits; members = members })
+      ap (λ (members : List ℕ). record { total = group .total; limits = group .limits; pairsThere = group .pairsThere; members = members })
       (running-all (marksOf marks group) (group .members) one-mark (gather-zero (group .members)))
     where
       gather-zero : (members : List ℕ) (k : ℕ) → getD (gather marks members) k 0 ≡ 0

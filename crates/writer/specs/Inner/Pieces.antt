@@ -1,17 +1,17 @@
 -- The pieces of a job's text, as they are written. Assumes nothing.
 use Prim.Native.Nat.{ℕ}
 use mathlib.Core.List.{List, [], _∷_, _++_, flatten}
-use Rattle.job.specs.Form.{deviationOpening, spreadOpening, membersOpening, printLimit}
-use Rattle.model.specs.declared.Limits.{Limits}
+use Rattle.job.specs.Form.{deviationOpening, spreadOpening, membersOpening, Heading, printLimit, printPairs}
 use Rattle.print.specs.Items.{form}
 use Rattle.text.specs.Words.{bytes}
 
 -- a group's line up to its members
-unfoldable pub groupHead : ℕ → Limits → List ℕ
-groupHead total limits =
+unfoldable pub groupHead : Heading → List ℕ
+groupHead h =
     flatten
-    (form (bytes "(group") (total ∷ [])
-    ∷ (deviationOpening ++ printLimit (limits .deviation))
-    ∷ (spreadOpening ++ printLimit (limits .spread))
+    (form (bytes "(group") (h .total ∷ [])
+    ∷ (deviationOpening ++ printLimit (h .deviation))
+    ∷ (spreadOpening ++ printLimit (h .spread))
+    ∷ printPairs (h .pairs)
     ∷ membersOpening
     ∷ [])

@@ -23,6 +23,8 @@ accepted-more {many = many} more (AcceptedGroups.also {g} first others) =
       total-fits = first .total-fits;
       deviation-fits = first .deviation-fits;
       spread-fits = first .spread-fits;
+      pairs-fits = first .pairs-fits;
+      unsaid-any = first .unsaid-any;
       sound = record {
         some = first .sound .some;
         named = record { below = λ k h. omega (arith, first .sound .named .below k h); different = first .sound .named .different };

@@ -11,7 +11,7 @@ use Rattle.groups.specs.Laws.Reading.{flatten-groups, flatten-holds}
 use Rattle.job.specs.Inner.Reading.{GroupsScanned}
 use Rattle.job.specs.Job.{Job, accepted, readJob}
 use Rattle.job.specs.Laws.Reading.{accepted-by, refused-by}
-use Rattle.job.specs.Laws.Sound.{accepted-sound}
+use Rattle.job.specs.Laws.Sound.{all-unsaid-any, accepted-sound}
 use Rattle.job.specs.Sound.{SoundJob}
 use Rattle.job.specs.declared.Reading.{Reading}
 use Rattle.job.specs.declared.Reading.the-variants as reading
@@ -103,7 +103,7 @@ module _ (found : Job) {flat : List ℕ} (rest : List ℕ) {number count : ℕ} 
         holds = rw starts (flatten-holds (found .groups) rest);
         job = found;
         sound = sound;
-        lists = rw starts (sym (flatten-groups (found .groups) rest));
+        lists = rw starts (sym (flatten-groups (all-unsaid-any (sound .built .groups-sound)) rest));
         counts = refl;
         marked = sym marked;
       })
@@ -113,7 +113,8 @@ module _ (found : Job) {flat : List ℕ} (rest : List ℕ) {number count : ℕ} 
       → writeOver (marksIn number flat) (groupsIn count flat) number lows highs buffer ≡ writeText text lows highs buffer
   unfolding writeText
   starts-writes text reads lows highs buffer =
-      rw (← counts, ← lists, marked, starts, flatten-groups (found .groups) rest, writeText, reads)
+      let any = all-unsaid-any (accepted-sound text found reads .built .groups-sound) in
+      rw (← counts, ← lists, marked, starts, flatten-groups any rest, writeText, reads)
 
 -- what scanning a text answers and leaves
 module _ {text flat₀ flat : List ℕ} {answer : Reading} (scanned : GroupsScanned text flat₀ flat answer) where

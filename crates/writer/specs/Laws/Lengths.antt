@@ -1,16 +1,16 @@
 -- How long the text of a job is. Assumes nothing.
 use Prim.Native.Nat.{ℕ, suc, _+_, _*_, _^_, _≤_, _<_}
-use mathlib.Core.Bool.{true}
+use mathlib.Core.Bool.{Bool, true, false}
 use mathlib.Core.List.{List, [], _∷_, _++_, map, flatten}
 use mathlib.Core.Path.{_≡_, ap}
 use native.Mathlib.Omega.{arith}
 use borrow.Author.Tests.{leb-true}
 use lib.ListN.{length, getD, length-append}
 use Rattle.groups.specs.Memberships.{memberships}
-use Rattle.job.specs.Form.{printLimit, printMembers, printUnit, space, unitEnding, deviationOpening, spreadOpening, membersOpening, groupEnding}
+use Rattle.job.specs.Form.{printLimit, printPairs, printMembers, printUnit, space, unitEnding, deviationOpening, spreadOpening, pairsOpening, membersOpening, groupEnding}
 use Rattle.job.specs.Job.{Job}
 use Rattle.job.specs.Sound.{AcceptedGroup, AcceptedGroups, SoundJob}
-use Rattle.model.specs.Figures.{limitWithin}
+use Rattle.model.specs.Figures.{greatestPairs, limitWithin}
 use Rattle.model.specs.Groups.{Group}
 use Rattle.model.specs.Running.{Marked}
 use Rattle.model.specs.Shares.{Ranges, mostUnits}
@@ -19,7 +19,7 @@ use Rattle.model.specs.declared.Limit.the-variants.{Any, AtMost}
 use Rattle.print.specs.Laws.Lengths.{print-length}
 use Rattle.text.specs.Numbers.{printNumber}
 use Rattle.writer.specs.Laws.Pieces.{joined-both}
-use Rattle.writer.specs.Texts.{rangeLines, memberLine, jobText, mostWritten}
+use Rattle.writer.specs.Texts.{rangeLines, pairsWritten, memberLine, jobText, mostWritten}
 
 -- a unit line of two shares
 unit-length : (low high : ℕ) → low < 10 ^ 7 → high < 10 ^ 7 → length (printUnit low high) ≤ 23
@@ -52,6 +52,13 @@ unfolding printLimit
 limit-length k Any fits long within = omega arith
 limit-length k (AtMost v) {most} fits long within = print-length k v (omega (arith, leb-true v most within))
 
+-- a pairs limit, where it was there
+pairs-length : (there : Bool) (limit : Limit) → limitWithin limit greatestPairs ≡ true → length (printPairs (pairsWritten there limit)) ≤ 21
+unfolding printPairs
+pairs-length false limit within = omega arith
+pairs-length true limit within =
+    omega (arith, length-append pairsOpening (printLimit limit), limit-length 11 limit (omega arith) (omega arith) within)
+
 -- unit numbers below 1000
 members-length : (members : List ℕ) → ((k : ℕ) → k < length members → getD members k 0 < mostUnits)
     → length (printMembers (map suc members)) ≤ 4 * length members
@@ -66,28 +73,31 @@ members-length (m ∷ members) below =
     )
 
 -- a group line
-group-length : {units : ℕ} (g : Group) → units ≤ mostUnits → AcceptedGroup units g → length (memberLine g) ≤ 70 + 4 * length (g .members)
+group-length : {units : ℕ} (g : Group) → units ≤ mostUnits → AcceptedGroup units g → length (memberLine g) ≤ 91 + 4 * length (g .members)
 unfolding memberLine
 group-length g few good =
     let numbers : List ℕ = printMembers (map suc (g .members)) in
     let members-part : List ℕ = membersOpening ++ (numbers ++ groupEnding) in
-    let spread-part : List ℕ = spreadOpening ++ (printLimit (g .limits .spread) ++ members-part) in
+    let pairs : List ℕ = printPairs (pairsWritten (g .pairsThere) (g .limits .pairs)) in
+    let spread-part : List ℕ = spreadOpening ++ (printLimit (g .limits .spread) ++ (pairs ++ members-part)) in
     let deviation-part : List ℕ = deviationOpening ++ (printLimit (g .limits .deviation) ++ spread-part) in
     omega (
       arith,
       length-append (printNumber (g .total)) deviation-part,
       length-append (printLimit (g .limits .deviation)) spread-part,
-      length-append (printLimit (g .limits .spread)) members-part,
+      length-append (printLimit (g .limits .spread)) (pairs ++ members-part),
+      length-append pairs members-part,
       length-append numbers groupEnding,
       print-length 8 (g .total) (omega (arith, good .total-fits)),
       limit-length 11 (g .limits .deviation) (omega arith) (omega arith) (good .deviation-fits),
       limit-length 17 (g .limits .spread) (omega arith) (omega arith) (good .spread-fits),
+      pairs-length (g .pairsThere) (g .limits .pairs) (good .pairs-fits),
       members-length (g .members) (λ k h. omega (arith, good .sound .named .below k h)),
     )
 
 -- the group lines
 groups-length : {units : ℕ} {groups : List Group} → units ≤ mostUnits → AcceptedGroups units groups
-    → length (flatten (map memberLine groups)) ≤ 70 * length groups + 4 * memberships groups
+    → length (flatten (map memberLine groups)) ≤ 91 * length groups + 4 * memberships groups
 unfolding flatten memberships
 groups-length few AcceptedGroups.none = omega arith
 groups-length few (AcceptedGroups.also {g} {gs} first others) =

@@ -4,15 +4,14 @@ use mathlib.Core.List.{List, [], _∷_, _++_, map, flatten, append-assoc, append
 use mathlib.Core.Path.{_≡_, refl, sym, ap, _∙_}
 use borrow.Author.Tests.{eq-eqb, ne-eqb}
 use Rattle.job.specs.Form.{unitEnding, groupOpening, deviationOpening, spreadOpening, membersOpening, groupEnding}
-use Rattle.job.specs.Form.{printLimit, printMembers, printUnit}
+use Rattle.job.specs.Form.{Heading, printLimit, printPairs, printMembers, printUnit}
 use Rattle.job.specs.Job.{Job}
 use Rattle.model.specs.Groups.{Group}
-use Rattle.model.specs.declared.Limits.{Limits}
 use Rattle.print.specs.Items.{item, items, form, printedLine}
 use Rattle.text.specs.Numbers.{printNumber}
 use Rattle.text.specs.Words.{bytes}
 use Rattle.writer.specs.Inner.Pieces.{groupHead}
-use Rattle.writer.specs.Texts.{rangeLine, rangeLines, memberLine, jobText}
+use Rattle.writer.specs.Texts.{rangeLine, rangeLines, headingOf, memberLine, jobText}
 
 -- a number after a space
 item-is : (v : ℕ) → item v ≡ 32 ∷ printNumber v
@@ -41,30 +40,29 @@ pub line-shut : (mark low high : ℕ) → (mark ≡ 0 → ⊥) → rangeLine mar
 line-shut mark low high off = rw (ne-eqb mark 0 off)
 
 -- what stands in front of a group's members
-head-is : (total : ℕ) (limits : Limits) → groupHead total limits
+head-is : (h : Heading) → groupHead h
     ≡ groupOpening
-    ++ (printNumber total
-    ++ (deviationOpening ++ (printLimit (limits .deviation) ++ (spreadOpening ++ (printLimit (limits .spread) ++ membersOpening)))))
+    ++ (printNumber (h .total)
+    ++ (deviationOpening
+    ++ (printLimit (h .deviation) ++ (spreadOpening ++ (printLimit (h .spread) ++ (printPairs (h .pairs) ++ membersOpening))))))
 unfolding groupHead form items flatten
-head-is total limits = rw (item-is total, append-nil (printNumber total), append-nil (printNumber total))
+head-is h = rw (item-is (h .total), append-nil (printNumber (h .total)), append-nil (printNumber (h .total)))
 
 -- the members behind it
-behind-head : (a d s rest : List ℕ)
-    → (a ++ (deviationOpening ++ (d ++ (spreadOpening ++ (s ++ membersOpening))))) ++ rest
-    ≡ a ++ (deviationOpening ++ (d ++ (spreadOpening ++ (s ++ (membersOpening ++ rest)))))
-behind-head a d s rest =
-    append-assoc a (deviationOpening ++ (d ++ (spreadOpening ++ (s ++ membersOpening)))) rest
-    ∙ ap (λ (r : List ℕ). a ++ (deviationOpening ++ r))
-    (append-assoc d (spreadOpening ++ (s ++ membersOpening)) rest
-    ∙ ap (λ (r : List ℕ). d ++ (spreadOpening ++ r)) (append-assoc s membersOpening rest))
+behind-head : (a d s p rest : List ℕ)
+    → (a ++ (deviationOpening ++ (d ++ (spreadOpening ++ (s ++ (p ++ membersOpening)))))) ++ rest
+    ≡ a ++ (deviationOpening ++ (d ++ (spreadOpening ++ (s ++ (p ++ (membersOpening ++ rest))))))
+behind-head a d s p rest = simp append-assoc
 
 -- a group's line is its head, its members' numbers and its end
-pub group-printed : (g : Group) → flatten (groupHead (g .total) (g .limits) ∷ items (map suc (g .members)) ∷ groupEnding ∷ []) ≡ memberLine g
+pub group-printed : (g : Group)
+    → flatten (groupHead (headingOf (g .total) (g .limits) (g .pairsThere)) ∷ items (map suc (g .members)) ∷ groupEnding ∷ []) ≡ memberLine g
 unfolding memberLine flatten
 group-printed g =
-    rw (head-is (g .total) (g .limits), members-items (map suc (g .members)))
+    let h : Heading = headingOf (g .total) (g .limits) (g .pairsThere) in
+    rw (head-is h, members-items (map suc (g .members)))
     (ap (λ (r : List ℕ). groupOpening ++ r)
-    (behind-head (printNumber (g .total)) (printLimit (g .limits .deviation)) (printLimit (g .limits .spread)) (items (map suc (g .members)) ++ groupEnding)))
+    (behind-head (printNumber (h .total)) (printLimit (h .deviation)) (printLimit (h .spread)) (printPairs (h .pairs)) (items (map suc (g .members)) ++ groupEnding)))
 
 -- lines one after another
 pub joined-both : (xs ys : List (List ℕ)) → flatten (xs ++ ys) ≡ flatten xs ++ flatten ys

@@ -31,7 +31,7 @@ use Rattle.writer.specs.Promises.{lentJob, textIn}
 use Rattle.writer.specs.Texts.{jobWith, jobText, mostWritten}
 use Rattle.writer.specs.declared.Writing.the-variants.{Written}
 
--- every job and table that the checks let through is written into a buffer of 26,752 bytes
+-- every job and table that the checks let through is written into a buffer of 28,096 bytes
 pub always-written : {text lows highs : List ℕ} {scratch : ℕ} (cleared : Cleared text lows highs scratch) (buffer : List ℕ)
     → mostWritten ≤ length buffer → writeText text lows highs buffer .answer ≡ Written (length (jobText (lentJob cleared)))
 always-written cleared buffer long =
@@ -60,7 +60,7 @@ module _ {text lows highs : List ℕ} {scratch : ℕ} (cleared : Cleared text lo
   pub written-accepted : readJob (textIn size (writeText text lows highs buffer)) ≡ accepted (lentJob cleared)
   written-accepted = ap readJob written-text ∙ text-accepted (lentJob cleared) (lent-sound cleared)
 
-  -- it has at most 26,752 bytes
+  -- it has at most 28,096 bytes
   pub written-fits : size ≤ mostWritten
   written-fits = omega (arith, written-size, text-fits (lentJob cleared) (lent-sound cleared))
 

@@ -10,6 +10,7 @@ use lib.ListN.{length, length-append}
 use Rattle.groups.specs.Memberships.{memberships}
 use Rattle.job.specs.Accepting.{Takes}
 use Rattle.job.specs.Form.{Line, UnitLine, range, shut, lineLow, lineHigh, lineMark, unit, group, printUnitLine, printLine}
+use Rattle.job.specs.Form.{PairsLimit, unsaid, said, pairsLimit, isSaid, limitsSaid}
 use Rattle.job.specs.Job.{Job, named, allNamed, memberOf, groupOf, headVerdict, membersVerdict, verdict, add, accepted, readJob}
 use Rattle.job.specs.Laws.Accepting.{accepted-takes, takes-accepted}
 use Rattle.job.specs.Laws.TextLines.{joined-lines}
@@ -19,7 +20,7 @@ use Rattle.model.specs.Groups.{Group}
 use Rattle.model.specs.Laws.Tests.{both-left, both-right}
 use Rattle.writer.specs.Laws.Lengths.{text-fits}
 use Rattle.writer.specs.Laws.Taken.{takes-job}
-use Rattle.writer.specs.Texts.{rangeLine, rangeLines, memberLine, jobLines, jobText}
+use Rattle.writer.specs.Texts.{rangeLine, rangeLines, pairsWritten, memberLine, jobLines, jobText}
 
 -- named unit numbers are those of their members
 numbers-again : (units : ℕ) (ms : List ℕ) → allNamed units ms ≡ true → map suc (map memberOf ms) ≡ ms
@@ -34,6 +35,11 @@ numbers-again units (m ∷ ms) held =
 line-again : (l : UnitLine) → rangeLine (lineMark l) (lineLow l) (lineHigh l) ≡ printUnitLine l
 line-again (range low high) = refl
 line-again shut = refl
+
+-- a pairs limit is that of what is kept of it
+pairs-again : (p : PairsLimit) → pairsWritten (isSaid p) (pairsLimit p) ≡ p
+pairs-again unsaid = refl
+pairs-again (said limit) = refl
 
 -- one unit more is one line more
 ranges-snoc : (marks lows highs : List ℕ) (mark low high : ℕ) → length highs ≡ length lows → length marks ≡ length lows
@@ -77,10 +83,11 @@ line-more job (unit u) paired good =
     (append-nil _)
 line-more job (group g) paired good =
     let numbers : List ℕ = g .first ∷ g .others in
-    let head : ℕ = headVerdict (length (job .groups)) (memberships (job .groups)) (g .total) (g .limits) (length numbers) in
+    let head : ℕ = headVerdict (length (job .groups)) (memberships (job .groups)) (g .heading .total) (limitsSaid (g .heading)) (length numbers) in
     let no-refusal = first-zero head (membersVerdict (length (job .lows)) numbers) good in
     let named-all = members-good (length (job .lows)) numbers (no-refusal .1) .all-named in
-    let printed : memberLine (groupOf g) ≡ printLine (group g) = rw (numbers-again (length (job .lows)) numbers named-all) in
+    let printed : memberLine (groupOf g) ≡ printLine (group g) =
+    rw (numbers-again (length (job .lows)) numbers named-all, pairs-again (g .heading .pairs)) in
     rw (groups-snoc (job .groups) (groupOf g), printed)
     (sym (append-assoc (rangeLines (job .marks) (job .lows) (job .highs)) (map memberLine (job .groups)) (printLine (group g) ∷ [])))
 

@@ -1,25 +1,29 @@
 -- The text of a sound job is accepted, as that job. Assumes nothing.
 use Prim.Native.Nat.{ℕ, suc, _+_, _≤_, _<_}
-use mathlib.Core.Bool.{true}
+use mathlib.Core.Bool.{Bool, true, false}
 use mathlib.Core.List.{List, [], _∷_, _++_, map, append-assoc, append-nil}
 use mathlib.Core.Path.{_≡_, refl, sym, ap, _∙_}
 use native.Mathlib.Omega.{arith}
 use borrow.Author.Tests.{le-leb}
 use lib.ListN.{length, getD, length-append, length-map}
-use Rattle.groups.specs.Memberships.{memberships}
+use Rattle.groups.specs.Memberships.{memberships, UnsaidAny}
 use Rattle.groups.specs.Laws.Storing.{memberships-snoc}
 use Rattle.job.specs.Accepting.{Takes}
-use Rattle.job.specs.Form.{UnitLine, range, shut, lineLow, lineHigh, lineMark, GroupLine, unit, group, printLine}
+use Rattle.job.specs.Form.{UnitLine, range, shut, lineLow, lineHigh, lineMark, pairsLimit, isSaid, limitsSaid, GroupLine, unit, group, printLine}
 use Rattle.job.specs.Job.{Job, mostGroups, mostMemberships, distinct, allNamed, groupOf, memberOf, membersVerdict, verdict, add, noLines}
 use Rattle.job.specs.Laws.Distinct.{distinct-members, different-distinct}
 use Rattle.job.specs.Laws.SameJob.{good-group}
 use Rattle.job.specs.Laws.Verdicts.{good-unit}
 use Rattle.job.specs.Sound.{AcceptedGroup, AcceptedGroups, SoundJob}
+use Rattle.model.specs.Figures.{greatestDeviation, greatestSpread, greatestPairs, limitWithin}
 use Rattle.model.specs.Groups.{Group}
 use Rattle.model.specs.Laws.Tests.{both}
 use Rattle.model.specs.Running.{Marked}
 use Rattle.model.specs.Shares.{Ranges, greatestShare, mostUnits}
-use Rattle.writer.specs.Texts.{rangeLines, memberLine, jobLines}
+use Rattle.model.specs.declared.Limit.{Limit}
+use Rattle.model.specs.declared.Limit.the-variants.{Any}
+use Rattle.model.specs.declared.Limits.{Limits}
+use Rattle.writer.specs.Texts.{rangeLines, pairsWritten, headingOf, memberLine, jobLines}
 
 -- the unit numbers of members below the count are named
 numbers-named : (units : ℕ) (members : List ℕ) → ((k : ℕ) → k < length members → getD members k 0 < units) → allNamed units (map suc members) ≡ true
@@ -73,6 +77,26 @@ takes-ranges job {lines = lines} {final = final} (Ranges.also {ls = ls} {hs = hs
     Takes.also (unit shut) refl (unit-taken job shut ordered fits none (omega arith))
     (takes-ranges (add job (unit shut)) ranges marked none (omega (arith, length-append (job .lows) (0 ∷ []))) after)
 
+-- a pairs limit is written as it was, where what was not there is any
+limit-back : (there : Bool) (limit : Limit) → (there ≡ false → limit ≡ Any) → pairsLimit (pairsWritten there limit) ≡ limit
+limit-back false limit any = sym (any refl)
+limit-back true limit any = refl
+
+-- and only if it was there
+there-back : (there : Bool) (limit : Limit) → isSaid (pairsWritten there limit) ≡ there
+there-back false limit = refl
+there-back true limit = refl
+
+-- a group put together from its parts
+group-again : (g : Group) {limit : Limit} {there : Bool} {members : List ℕ} → limit ≡ g .limits .pairs → there ≡ g .pairsThere → members ≡ g .members
+    → record {
+      total = g .total;
+      limits = record { deviation = g .limits .deviation; spread = g .limits .spread; pairs = limit };
+      pairsThere = there;
+      members = members;
+    } ≡ g
+group-again g e f h = rw (e, f, h)
+
 -- the group line of a group with members
 pub record LineOf (g : Group) : Type 0 where
   pub line : GroupLine
@@ -80,16 +104,18 @@ pub record LineOf (g : Group) : Type 0 where
   pub holds : groupOf line ≡ g
   pub numbers : line .first ∷ line .others ≡ map suc (g .members)
 
-line-of : (g : Group) → 0 < length (g .members) → LineOf g
+line-of : (g : Group) → 0 < length (g .members) → UnsaidAny g → LineOf g
 unfolding memberLine printLine
-line-of g some = by-members (g .members) refl
+line-of g some any = by-members (g .members) refl
   where
     by-members : (ms : List ℕ) → g .members ≡ ms → LineOf g
     by-members [] is = absurd (omega (arith, ap length is))
     by-members (m ∷ ms) is = record {
-      line = record { total = g .total; limits = g .limits; first = suc m; others = map suc ms };
+      line = record { heading = headingOf (g .total) (g .limits) (g .pairsThere); first = suc m; others = map suc ms };
       printed = rw is;
-      holds = ap (λ (members : List ℕ). record { total = g .total; limits = g .limits; members = members }) (numbers-back (m ∷ ms) ∙ sym is);
+      holds =
+          group-again g (limit-back (g .pairsThere) (g .limits .pairs) any) (there-back (g .pairsThere) (g .limits .pairs))
+          (numbers-back (m ∷ ms) ∙ sym is);
       numbers = rw is;
     }
 
@@ -109,12 +135,13 @@ module _ (job : Job) (g : Group) (found : LineOf g) (good : AcceptedGroup (lengt
   line-good : verdict job (group (found .line)) ≡ 0
   line-good =
       let counted : length (found .line .first ∷ found .line .others) ≡ length (g .members) = ap length (found .numbers) ∙ length-map (g .members) suc in
-      let total-is : found .line .total ≡ g .total = ap (λ (h : Group). h .total) (found .holds) in
-      let limits-are : found .line .limits ≡ g .limits = ap (λ (h : Group). h .limits) (found .holds) in
+      let total-is : found .line .heading .total ≡ g .total = ap (λ (h : Group). h .total) (found .holds) in
+      let limits-are : limitsSaid (found .line .heading) ≡ g .limits = ap (λ (h : Group). h .limits) (found .holds) in
       good-group job (found .line) (record {
         total-fits = rw total-is (good .total-fits);
-        deviation-fits = rw limits-are (good .deviation-fits);
-        spread-fits = rw limits-are (good .spread-fits);
+        deviation-fits = ap (λ (l : Limits). limitWithin (l .deviation) greatestDeviation) limits-are ∙ good .deviation-fits;
+        spread-fits = ap (λ (l : Limits). limitWithin (l .spread) greatestSpread) limits-are ∙ good .spread-fits;
+        pairs-fits = ap (λ (l : Limits). limitWithin (l .pairs) greatestPairs) limits-are ∙ good .pairs-fits;
         room = room;
         fits = omega (arith, counted, fits);
       }) (rw (found .numbers) members-good)
@@ -127,7 +154,7 @@ unfolding memberships add
 takes-groups AcceptedGroups.none job counted room fits =
     Takes.none (ap (λ (gs : List Group). record { lows = job .lows; highs = job .highs; marks = job .marks; groups = gs }) (sym (append-nil (job .groups))))
 takes-groups (AcceptedGroups.also {g} {gs} first others) job counted room fits =
-    let at : LineOf g = line-of g (first .sound .some) in
+    let at : LineOf g = line-of g (first .sound .some) (first .unsaid-any) in
     let grows : List Group = job .groups ++ g ∷ [] in
     let after : Takes (add job (group (at .line))) (map memberLine gs) (record { lows = job .lows; highs = job .highs; marks = job .marks; groups = job .groups ++ g ∷ gs }) =
     rw (at .holds, ← append-assoc (job .groups) (g ∷ []) gs)

@@ -4,13 +4,13 @@ use mathlib.Core.List.{List}
 use lib.ListN.{length}
 use mathlib.Core.Path.{_≡_, sym}
 use Rattle.text.specs.Parsed.{parsed, andThen, mapped, word}
-use Rattle.text.specs.Laws.Parsed.{mapped-parsed}
+use Rattle.text.specs.Laws.Parsed.{mapped-parsed, mapped-failed}
 use Rattle.text.specs.Inner.Spots.{bytesFrom, stepped}
 use Rattle.text.specs.Laws.Spots.{told}
-use Rattle.job.specs.Form.{groupEnding, headAs, membersAs, groupAs}
+use Rattle.job.specs.Form.{Heading, groupEnding, headAs, membersAs, groupAs}
 use Rattle.text.specs.Inner.Numbers.{held}
 use Rattle.job.specs.Inner.LinesRead.{headSeen}
-use Rattle.job.specs.Inner.Tally.{tallied}
+use Rattle.job.specs.Inner.Tally.{keptHead, tallied}
 use Rattle.job.specs.Laws.Tally.{grouped-none, grouped-some}
 use borrow.Author.Needs.{needs}
 use Rattle.job.proofs.lines.group_line.Statement.{statement}
@@ -43,11 +43,15 @@ enum-told c = search needs
 
 returns : tie.Need-returns
 unfolding groupAs andThen mapped
-returns c = rw (told (headSeen _) (c .before .before .head-line .ensures) (c .enum-told .given .1))
+returns c =
+    rw (mapped-failed keptHead (headAs held _) (told (headSeen _) (c .before .before .head-line .ensures) (c .enum-told .given .1)))
 
 -- the head is read
-head : (c : tie.After-head) → headAs held (bytesFrom (c .before .before .before .before .before .args .text .now) (c .before .before .before .before .before .args .spot)) ≡ parsed (c .head .given .0 .0) (after-head c)
-head c = told (headSeen _) (c .before .before .head-line .ensures) (c .head .given .1)
+head : (c : tie.After-head) →
+    (h : Heading)
+    × (headAs held (bytesFrom (c .before .before .before .before .before .args .text .now) (c .before .before .before .before .before .args .spot)) ≡ parsed h (after-head c))
+    × (keptHead h ≡ c .head .given .0 .0)
+head c = mapped-parsed keptHead (headAs held _) (told (headSeen _) (c .before .before .head-line .ensures) (c .head .given .1))
 
 read-members-requires : tie.Need-read-members-requires
 read-members-requires c κs = search needs
@@ -76,7 +80,7 @@ same-length c = c .before .before .before .before .before .before .before .read-
 returns-2 : tie.Need-returns-2
 unfolding groupAs andThen mapped
 returns-2 c =
-    rw (head (c .before .before .before .before .before .before .before .before .before .before), members (c .before .before .before .before .before .before .before) .1, told (stepped _) (c .before .before .word .ensures) (c .enum-told2 .given .1))
+    rw (head (c .before .before .before .before .before .before .before .before .before .before) .1, members (c .before .before .before .before .before .before .before) .1, told (stepped _) (c .before .before .word .ensures) (c .enum-told2 .given .1))
 
 -- and the line's end
 ending : (c : tie.After-next) → word groupEnding (bytesFrom (start (c .before .before .before .before .before .before .before) .args .text .now) (c .before .before .before .before .before .before .before .read-members .result .next)) ≡ parsed tt (bytesFrom (start (c .before .before .before .before .before .before .before) .args .text .now) (c .next .given .0 .0))
@@ -89,7 +93,7 @@ returns-3 : tie.Need-returns-3
 unfolding groupAs andThen mapped
 returns-3 c =
     let m = members (c .before .before .before .before .before .before .before .before .before) in
-    rw (head (c .before .before .before .before .before .before .before .before .before .before .before .before), m .1, ending (c .before .before), grouped-none _ _ _ _ (m .0) _ _ (m .2) (c .if1 .taken))
+    rw (head (c .before .before .before .before .before .before .before .before .before .before .before .before) .1, m .1, ending (c .before .before), grouped-none _ _ _ _ (m .0) _ _ (m .2) (c .if1 .taken))
 
 same-length-3 : tie.Need-same-length-3
 same-length-3 c = c .before .before .before .before .before .before .before .before .before .read-members .kept .1 .1 .0
@@ -98,7 +102,8 @@ returns-4 : tie.Need-returns-4
 unfolding groupAs andThen mapped
 returns-4 c =
     let m = members (c .before .before .before .before .before .before .before .before .before) in
-    rw (head (c .before .before .before .before .before .before .before .before .before .before .before .before), m .1, ending (c .before .before)) (sym (grouped-some _ _ _ _ (m .0) _ _ (m .2) (c .if1 .left)))
+    let h = head (c .before .before .before .before .before .before .before .before .before .before .before .before) in
+    rw (h .1, m .1, ending (c .before .before)) (sym (grouped-some _ _ _ (h .0) (h .2) (m .0) _ _ (m .2) (c .if1 .left)))
 
 pub group-line-spec : {M : Type 1} → statement M
 group-line-spec =

@@ -71,6 +71,9 @@ returns-3 c = rw (total (c .before .before .before .before .before .before .befo
 spread : (c : tie.After-spread) → limitAs held spreadOpening (bytesFrom (c .before .before .before .before .before .before .before .before .before .before .before .before .before .before .before .args .text .now) (c .before .before .before .before .before .deviation .given .0 .1 .0)) ≡ parsed (c .spread .given .0 .0) (bytesFrom (c .before .before .before .before .before .before .before .before .before .before .before .before .before .before .before .args .text .now) (c .spread .given .0 .1 .0))
 spread c = told (limitSeen _) (c .before .before .limit-after2 .ensures) (c .spread .given .1)
 
+pairs-after-requires : tie.Need-pairs-after-requires
+pairs-after-requires c κs = search needs
+
 slice-aggregate-word : tie.Need-slice-aggregate-word
 slice-aggregate-word c = search needs
 
@@ -85,11 +88,16 @@ enum-told-4 c = search needs
 
 returns-4 : tie.Need-returns-4
 unfolding headAs numberAs andThen mapped
-returns-4 c = rw (total (c .before .before .before .before .before .before .before .before .before .before .before .before .before .before .before), deviation (c .before .before .before .before .before .before .before .before .before .before), spread (c .before .before .before .before .before), told (stepped _) (c .before .before .word .ensures) (c .enum-told4 .given .1))
+returns-4 c =
+    let said = c .before .before .before .before .before in
+    rw (total (said .before .before .before .before .before .before .before .before .before .before .before .before), deviation (said .before .before .before .before .before .before .before), spread (said .before .before), said .pairs-after .ensures .read, told (stepped _) (c .before .before .word .ensures) (c .enum-told4 .given .1))
 
 returns-5 : tie.Need-returns-5
 unfolding headAs numberAs andThen mapped
-returns-5 c = rw (total (c .before .before .before .before .before .before .before .before .before .before .before .before .before .before .before .before), deviation (c .before .before .before .before .before .before .before .before .before .before .before), spread (c .before .before .before .before .before .before), told (stepped _) (c .before .before .before .word .ensures) (c .before .spot .given .1))
+returns-5 c =
+    let said = c .before .before .before .before .before .before in
+    let words = said .pairs-after .ensures in
+    rw (total (said .before .before .before .before .before .before .before .before .before .before .before .before), deviation (said .before .before .before .before .before .before .before), spread (said .before .before), words .read, told (stepped _) (c .before .before .before .word .ensures) (c .before .spot .given .1), words .limit, words .there)
 
 pub head-line-spec : {M : Type 1} → statement M
 head-line-spec =
@@ -110,6 +118,7 @@ head-line-spec =
     enum-known-spread
     enum-told-3
     returns-3
+    pairs-after-requires
     slice-aggregate-word
     word-requires
     enum-known-spot

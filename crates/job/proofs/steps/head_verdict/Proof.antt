@@ -4,7 +4,7 @@ use Prim.Native.Nat.{ℕ, _+_}
 use mathlib.Core.Bool.{true}
 use mathlib.Core.Path.{_≡_, refl, sym, _∙_}
 use lib.Dec.{leb}
-use Rattle.model.specs.Figures.{greatestDeviation, greatestSpread, limitWithin}
+use Rattle.model.specs.Figures.{greatestDeviation, greatestSpread, greatestPairs, limitWithin}
 use Rattle.model.specs.Shares.{greatestTotal}
 use Rattle.model.specs.Laws.Refusals.{passes, fails}
 use Rattle.model.specs.Refusals.{unless}
@@ -40,28 +40,45 @@ returns-3 : tie.Need-returns-3
 unfolding headVerdict
 returns-3 c = passes 4 (total (c .before .before .before .before .before)) (passes 4 (deviation (c .before .before)) (fails _ (sym (c .before .within2 .ensures) ∙ not-true _ (c .if3 .taken))))
 
--- and with the spread limit all three
-ranges : (c : tie.Else3) {v r : ℕ} → v ≡ r → let h = c .before .before .before .before .before .before .before .args .head in v ≡ unless (leb (h .total) greatestTotal) 4 (unless (limitWithin (h .limits .deviation) greatestDeviation) 4 (unless (limitWithin (h .limits .spread) greatestSpread) 4 r))
-ranges c e = passes 4 (total (c .before .before .before .before .before)) (passes 4 (deviation (c .before .before)) (passes 4 (sym (c .before .within2 .ensures) ∙ not-false _ (c .if3 .left)) e))
+-- and the spread limit
+spread : (c : tie.Else3) → limitWithin (c .before .before .before .before .before .before .before .args .head .limits .spread) greatestSpread ≡ true
+spread c = sym (c .before .within2 .ensures) ∙ not-false _ (c .if3 .left)
+
+within-requires-3 : tie.Need-within-requires-3
+within-requires-3 c κs = search needs
 
 returns-4 : tie.Need-returns-4
 unfolding headVerdict
-returns-4 c = ranges (c .before .before) (fails _ (le-ltb _ _ (c .if4 .taken)))
+returns-4 c =
+    passes 4 (total (c .before .before .before .before .before .before .before))
+    (passes 4 (deviation (c .before .before .before .before)) (passes 4 (spread (c .before .before)) (fails _ (sym (c .before .within3 .ensures) ∙ not-true _ (c .if4 .taken)))))
 
-sub-if5 : tie.Need-sub-if5
-sub-if5 c = search needs
+-- and with the pairs limit all four
+ranges : (c : tie.Else4) {v r : ℕ} → v ≡ r →
+    let h = c .before .before .before .before .before .before .before .before .before .args .head in
+    v ≡ unless (leb (h .total) greatestTotal) 4 (unless (limitWithin (h .limits .deviation) greatestDeviation) 4 (unless (limitWithin (h .limits .spread) greatestSpread) 4 (unless (limitWithin (h .limits .pairs) greatestPairs) 4 r)))
+ranges c e =
+    passes 4 (total (c .before .before .before .before .before .before .before))
+    (passes 4 (deviation (c .before .before .before .before)) (passes 4 (spread (c .before .before)) (passes 4 (sym (c .before .within3 .ensures) ∙ not-false _ (c .if4 .left)) e)))
 
 returns-5 : tie.Need-returns-5
 unfolding headVerdict
-returns-5 c =
-    let a = c .before .before .before .before .before .before .before .before .before .before .before .args in
-    ranges (c .before .before .before .before) (passes 6 (lt-ltb _ _ (c .before .before .if4 .left)) (fails _ (lt-leb (a .progress .memberships + a .count) mostMemberships (omega (arith, c .if5 .taken)))))
+returns-5 c = ranges (c .before .before) (fails _ (le-ltb _ _ (c .if5 .taken)))
+
+sub-if6 : tie.Need-sub-if6
+sub-if6 c = search needs
 
 returns-6 : tie.Need-returns-6
 unfolding headVerdict
 returns-6 c =
-    let s = c .before .before .before .before .before .before .before .before .before .before .before in
-    ranges (c .before .before .before .before) (passes 6 (lt-ltb _ _ (c .before .before .if4 .left)) (passes 6 (le-leb (s .args .progress .memberships + s .args .count) mostMemberships (omega (arith, c .if5 .left, s .pre .memberships))) refl))
+    let a = c .before .before .before .before .before .before .before .before .before .before .before .before .before .args in
+    ranges (c .before .before .before .before) (passes 6 (lt-ltb _ _ (c .before .before .if5 .left)) (fails _ (lt-leb (a .progress .memberships + a .count) mostMemberships (omega (arith, c .if6 .taken)))))
+
+returns-7 : tie.Need-returns-7
+unfolding headVerdict
+returns-7 c =
+    let s = c .before .before .before .before .before .before .before .before .before .before .before .before .before in
+    ranges (c .before .before .before .before) (passes 6 (lt-ltb _ _ (c .before .before .if5 .left)) (passes 6 (le-leb (s .args .progress .memberships + s .args .count) mostMemberships (omega (arith, c .if6 .left, s .pre .memberships))) refl))
 
 pub head-verdict-spec : {M : Type 1} → statement M
 head-verdict-spec =
@@ -72,7 +89,9 @@ head-verdict-spec =
     returns-2
     within-requires-2
     returns-3
+    within-requires-3
     returns-4
-    sub-if5
     returns-5
-    returns-6)
+    sub-if6
+    returns-6
+    returns-7)

@@ -2,14 +2,14 @@
 use mathlib.Core.Path.{_≡_, sym, _∙_, ap}
 use lib.ListN.{length}
 use lib.Seq.{sets}
-use Rattle.model.specs.Figures.{greatestDeviation, greatestSpread}
+use Rattle.model.specs.Figures.{greatestDeviation, greatestSpread, greatestPairs}
 use Rattle.text.specs.Parsed.{mapped}
 use Rattle.text.specs.Laws.Parsed.{mapped-failed}
 use Rattle.text.specs.Inner.Numbers.{held}
 use Rattle.text.specs.Inner.Spots.{bytesFrom}
 use Rattle.text.specs.Laws.Spots.{told}
 use Rattle.groups.specs.Inner.Flat.{flatLength}
-use Rattle.job.specs.Form.{group, groupAs}
+use Rattle.job.specs.Form.{limitsSaid, group, groupAs}
 use Rattle.job.specs.Job.{firstRefusal, headVerdict, membersVerdict, add, stepOn}
 use Rattle.job.specs.Inner.LinesRead.{groupSeen}
 use Rattle.job.specs.Inner.Tally.{groupTally}
@@ -78,7 +78,7 @@ verdict : (c : tie.After-group-verdict) →
     let h = c .before .before .before in
     let p = h .before .before .before .before .before .before .before .before .args .progress in
     let g = seen h .line in
-    c .group-verdict .result ≡ firstRefusal (headVerdict (p .groups) (p .memberships) (g .total) (g .limits) (length (numbersOf g))) (membersVerdict (p .units) (numbersOf g))
+    c .group-verdict .result ≡ firstRefusal (headVerdict (p .groups) (p .memberships) (g .heading .total) (limitsSaid (g .heading)) (length (numbersOf g))) (membersVerdict (p .units) (numbersOf g))
 verdict c =
     let h = c .before .before .before in
     let s = h .before .before .before .before .before .before .before .before in
@@ -104,7 +104,7 @@ good : (e : tie.Else1) →
     let h = e .before .before .before .before in
     let p = h .before .before .before .before .before .before .before .before .args .progress in
     let g = seen h .line in
-    HeadGood (p .groups) (p .memberships) (g .total) (g .limits) (length (numbersOf g))
+    HeadGood (p .groups) (p .memberships) (g .heading .total) (limitsSaid (g .heading)) (length (numbersOf g))
 good e = head-good _ _ _ _ _ (first-zero _ _ (sym (verdict (e .before)) ∙ e .if1 .left) .0)
 
 put-group-requires : tie.Need-put-group-requires
@@ -112,17 +112,19 @@ put-group-requires c κs =
     let e = c .before .before in
     let h = e .before .before .before .before in
     let f = seen h in
+    let limits = limitsSaid (f .line .heading) in
     let k = good e in (
       omega (arith, k .room, k .fits, h .before .before .before .before .group-line .kept .1 .1 .0, h .before .before .before .before .before .before .before .before .pre .2),
-      rw (← f .limits) (limit-coded greatestDeviation (f .line .limits .deviation) (omega arith) (k .deviation-fits)),
-      rw (← f .limits) (limit-coded greatestSpread (f .line .limits .spread) (omega arith) (k .spread-fits)),
+      rw (← f .limits) (omega (arith, limit-coded greatestDeviation (limits .deviation) (k .deviation-fits))),
+      rw (← f .limits) (omega (arith, limit-coded greatestSpread (limits .spread) (k .spread-fits))),
+      rw (← f .limits) (omega (arith, limit-coded greatestPairs (limits .pairs) (k .pairs-fits))),
     )
 
-add-t18 : tie.Need-add-t18
-add-t18 c = search needs
+add-t19 : tie.Need-add-t19
+add-t19 c = search needs
 
-add-t29 : tie.Need-add-t29
-add-t29 c =
+add-t30 : tie.Need-add-t30
+add-t30 c =
     let e = c .before .before .before .before .before in
     omega (arith, good e .fits, seen (e .before .before .before .before) .counted)
 
@@ -139,7 +141,7 @@ returns-3 c = λ job lows₀ highs₀ flat₀ lows highs holds.
     let p = s .args .progress in
     let none = sym (verdict (e .before)) ∙ e .if1 .left in
     let at = flatLength (p .groups) (p .memberships) in
-    let stored = c .before .before .before .put-group .ensures ∙ heads-alike (h .before .before .before .before .group-line .last .1 .1 .0) at (sym (f .total)) (sym (f .limits)) (sym (f .counted)) ∙ ap (λ x. sets x at (headNumbers job p _ holds (f .line))) (f .stored) in (
+    let stored = c .before .before .before .put-group .ensures ∙ heads-alike (h .before .before .before .before .group-line .last .1 .1 .0) at (sym (f .total)) (sym (f .limits)) (sym (f .there)) (sym (f .counted)) ∙ ap (λ x. sets x at (headNumbers job p _ holds (f .line))) (f .stored) in (
       add job (group (f .line)),
       ap (λ x. stepOn job (bytesFrom (s .args .text .now) (s .args .spot)) (mapped group x)) (f .read) ∙ group-next job p _ holds (f .line) _ _ none,
       group-holds job p _ holds (f .line) _ _ (first-zero _ _ none .0) (s .pre .2) (f .counted) stored,
@@ -164,7 +166,7 @@ take-group-spec =
     same-length-2
     returns-2
     put-group-requires
-    add-t18
-    add-t29
+    add-t19
+    add-t30
     same-length-3
     returns-3)

@@ -23,14 +23,32 @@ within-requires-2 c κs = search needs
 
 returns-3 : tie.Need-returns-3
 returns-3 c =
-    let first = c .before .before in
+    let second = c .before in
+    let first = second .before .before in
     rw (
       le-leb _ _ (first .before .if1 .left),
       ← first .within .ensures,
-      not-false (first .within .result) (c .before .if2 .left),
+      not-false (first .within .result) (second .before .if2 .left),
+      ← second .within2 .ensures,
+      not-true (second .within2 .result) (c .if3 .taken),
     )
-    (c .within2 .ensures)
+
+within-requires-3 : tie.Need-within-requires-3
+within-requires-3 c κs = search needs
+
+returns-4 : tie.Need-returns-4
+returns-4 c =
+    let second = c .before .before in
+    let first = second .before .before in
+    rw (
+      le-leb _ _ (first .before .if1 .left),
+      ← first .within .ensures,
+      not-false (first .within .result) (second .before .if2 .left),
+      ← second .within2 .ensures,
+      not-false (second .within2 .result) (c .before .if3 .left),
+    )
+    (c .within3 .ensures)
 
 pub amounts-within-spec : {M : Type 1} → statement M
 amounts-within-spec =
-    tie.close (tie.spec returns within-requires returns-2 within-requires-2 returns-3)
+    tie.close (tie.spec returns within-requires returns-2 within-requires-2 returns-3 within-requires-3 returns-4)

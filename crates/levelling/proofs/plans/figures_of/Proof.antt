@@ -186,12 +186,18 @@ module _ (c : tie.After-loop Inv-loop μ-loop) where
 from-squares-requires : tie.Need-from-squares-requires Inv-loop μ-loop
 from-squares-requires c κs = enough (begun c) _ (number c) _ (squared c)
 
+-- each is one share's range, and they add up to their total
+pairs-of-requires : tie.Need-pairs-of-requires Inv-loop μ-loop
+pairs-of-requires c κs =
+    let pre = begun (c .before) .pre in
+    record { sound = pre .sound; marked = pre .marked; adds = refl }
+
 returns : tie.Need-returns Inv-loop μ-loop
 returns c =
-    let l = c .before in
+    let l = c .before .before in
     let s = begun l in
     let deviated = summed-running _ (s .args .marks .now) (shares s) _ _ (ended l) (l .before .loop .inv .1) in
-    rw (← deviation-is s _ (number l) _ deviated, ← spread-is s _ (number l) _ _ (squared l) (c .from-squares .ensures))
+    rw (← deviation-is s _ (number l) _ deviated, ← spread-is s _ (number l) _ _ (squared l) (c .before .from-squares .ensures), ← c .pairs-of .ensures)
 
 pub figures-of-spec : {M : Type 1} → statement M
 figures-of-spec =
@@ -215,4 +221,5 @@ figures-of-spec =
     loop-less
     loop-again
     from-squares-requires
+    pairs-of-requires
     returns)

@@ -15,7 +15,7 @@ use Rattle.report.proofs.lines.put_group_line.Tie as tie
 parts : (number level : ℕ) (figures : Figures) (shares : List ℕ) {buffer : List ℕ} {at : ℕ}
     → Room buffer at (groupLine number level figures shares)
     → Rest (groupLine number level figures shares) buffer at
-    (form (bytes "(group") (number ∷ level ∷ figures .deviation .0 ∷ figures .spread .0 ∷ []) ∷ form (bytes " (plan") shares ∷ bytes "))\n" ∷ [])
+    (form (bytes "(group") (number ∷ level ∷ figures .deviation .0 ∷ figures .spread .0 ∷ figures .pairs .0 ∷ []) ∷ form (bytes " (plan") shares ∷ bytes "))\n" ∷ [])
     buffer at
 unfolding groupLine
 parts number level figures shares room = begin _ refl room

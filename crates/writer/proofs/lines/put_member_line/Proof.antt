@@ -13,12 +13,14 @@ use Rattle.print.specs.Laws.Written.{Rest, begin, room-next, next, done}
 use Rattle.levelling.specs.Laws.Parts.{part}
 use Rattle.writer.specs.Inner.Pieces.{groupHead}
 use Rattle.writer.specs.Laws.Pieces.{group-printed}
-use Rattle.writer.specs.Texts.{memberLine}
+use Rattle.writer.specs.Texts.{headingOf, memberLine}
 use Rattle.writer.proofs.lines.put_member_line.Statement.{statement}
 use Rattle.writer.proofs.lines.put_member_line.Tie as tie
 
 parts : (g : Group) {buffer : List ℕ} {at : ℕ} → Room buffer at (memberLine g)
-    → Rest (memberLine g) buffer at (groupHead (g .total) (g .limits) ∷ items (map suc (g .members)) ∷ groupEnding ∷ []) buffer at
+    → Rest (memberLine g) buffer at
+    (groupHead (headingOf (g .total) (g .limits) (g .pairsThere)) ∷ items (map suc (g .members)) ∷ groupEnding ∷ [])
+    buffer at
 parts g room = begin _ (group-printed g) room
 
 module _ (start : tie.Start) where
@@ -27,7 +29,7 @@ module _ (start : tie.Start) where
 
   -- the pieces of the line, at the start
   left : Rest (memberLine group) (start .args .buffer .now) (start .args .at)
-      (groupHead (group .total) (group .limits) ∷ items (map suc (group .members)) ∷ groupEnding ∷ [])
+      (groupHead (headingOf (group .total) (group .limits) (group .pairsThere)) ∷ items (map suc (group .members)) ∷ groupEnding ∷ [])
       (start .args .buffer .now) (start .args .at)
   left = parts group (start .pre .1 .1)
 
