@@ -224,7 +224,7 @@ impl<'a> Gauges<'a> {
     }
 }
 
-/// Where figures of some widths stand from a place on, each with its room, where each gets so much beyond its width.
+/// Where figures of some widths stand from a place on, each with its room: its width and what there is to spare, or lacking.
 fn placed(first: f64, widths: [f64; 3], spare: f64) -> [(f64, f64); 3] {
     let mut start = first;
     widths.map(|width| {
