@@ -116,7 +116,7 @@ impl Row {
         };
         let average = copies(shared.average_distance()) + " on average";
         let standard = format!("standard deviation {}", copies(shared.standard_distance()));
-        let between = copies(shared.average_difference()) + " between two";
+        let between = copies(shared.average_difference()) + " on average";
         Row {
             total: grouped(group.total),
             mean: decimal(shared.mean()),
