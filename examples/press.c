@@ -28,7 +28,7 @@ int main(void) {
     }
 
     /* The press level: 7 copies off the mean in all is a deviation of 4 * 7; lows and highs are narrowed. */
-    danivomel_limits limits = {.deviation = {.any = false, .at_most = 28}, .spread = {.any = true}};
+    danivomel_limits limits = {.deviation = {.any = false, .at_most = 28}, .spread = {.any = true}, .pairs = {.any = true}};
     danivomel_refusal refusal = danivomel_narrow(lows, UNITS, highs, UNITS, marks, UNITS, TOTAL, limits);
     if (refusal.number != DANIVOMEL_DONE) {
         return refused(refusal);
@@ -37,7 +37,8 @@ int main(void) {
     for (size_t i = 0; i < UNITS; i++) {
         printf("(unit %zu %" PRIu64 " %" PRIu64 ")\n", i + 1, lows[i], highs[i]);
     }
-    printf("(group 1 %" PRIu64 " %" PRIu64 " %" PRIu64 " (plan", levelled.level, levelled.deviation.value, levelled.spread.value);
+    printf("(group 1 %" PRIu64 " %" PRIu64, levelled.level, levelled.deviation.value);
+    printf(" %" PRIu64 " %" PRIu64 " (plan", levelled.spread.value, levelled.pairs.value);
     for (size_t i = 0; i < UNITS; i++) {
         printf(" %" PRIu64, plan[i]);
     }

@@ -19,7 +19,8 @@ static const char *const job = "(unit 0 40000)\n"
                                "(group 90000 (dev 4500) (spread any) (of 1 2 3 4))\n";
 
 /* 500 copies off the mean on average, over three running units: 3 * 3 * 500. */
-static const danivomel_limits limits = {.deviation = {.any = false, .at_most = 4500}, .spread = {.any = true}};
+static const danivomel_limits limits = {
+    .deviation = {.any = false, .at_most = 4500}, .spread = {.any = true}, .pairs = {.any = true}};
 
 /* Prints a refusal as a report does. */
 static int refused(danivomel_refusal refusal) {
@@ -63,7 +64,8 @@ static int level(uint64_t second) {
     if (levelled.refusal.number != DANIVOMEL_DONE) {
         return refused(levelled.refusal);
     }
-    printf("(group 1 %" PRIu64 " %" PRIu64 " %" PRIu64 " (plan", levelled.level, levelled.deviation.value, levelled.spread.value);
+    printf("(group 1 %" PRIu64 " %" PRIu64, levelled.level, levelled.deviation.value);
+    printf(" %" PRIu64 " %" PRIu64 " (plan", levelled.spread.value, levelled.pairs.value);
     for (size_t i = 0; i < UNITS; i++) {
         printf(" %" PRIu64, plan[i]);
     }

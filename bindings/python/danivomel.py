@@ -81,12 +81,13 @@ class Range(NamedTuple):
 class Levelled(NamedTuple):
     """What levelling answers. Each member takes the level, or its own low or high where the level is outside; copies
     left over go one each to the first members that can take one more. Where all are at their highs it is 1,000,000.
-    Of n running members the deviation is the sum of |n * share - total|, in copies once it is divided by n, and the
-    spread is n * (sum of squared shares) - total * total; both are 0 where none runs."""
+    Of n running members the deviation is the sum of |n * share - total|, the spread n * (sum of squared shares) - total
+    * total, and pairs the sum of larger less smaller share over all pairs, each once; all are 0 where none runs."""
     shares: List[int]
     level: int
     deviation: int
     spread: int
+    pairs: int
 
 
 # What reading answers: the table of the unit lines' ranges, and how many groups the job has.
@@ -106,12 +107,12 @@ def _struct(**fields: Any) -> Any:
 
 _REFUSAL = _struct(number=c_uint64, place=c_uint64)
 _LIMIT = _struct(any=c_bool, at_most=c_uint64)
-_LIMITS = _struct(deviation=_LIMIT, spread=_LIMIT)
+_LIMITS = _struct(deviation=_LIMIT, spread=_LIMIT, pairs=_LIMIT)
 _RANGE = _struct(low=c_uint64, high=c_uint64)
 _LIST, _TABLE, _BYTES = [POINTER(c_uint64), c_size_t], [POINTER(_RANGE), c_size_t], [c_char_p, c_size_t]
 # What each call takes, and what it answers after its refusal.
 _CALLS = {
-    "level": (_LIST * 3 + [c_uint64] + _LIST, dict(level=c_uint64, deviation=c_uint64, spread=c_uint64)),
+    "level": (_LIST * 3 + [c_uint64] + _LIST, dict.fromkeys(["level", "deviation", "spread", "pairs"], c_uint64)),
     "narrow": (_LIST * 3 + [c_uint64, _LIMITS], dict()),
     "read": (_BYTES + _TABLE, dict(units=c_size_t, groups=c_size_t)),
     "settle": (_BYTES + _TABLE + _LIST, dict(passes=c_uint64)),
@@ -125,8 +126,7 @@ _MOST_UNITS = 256
 def _load() -> CDLL:
     """The library that DANIVOMEL_LIBRARY names; else as installed, as the repository makes it, as the system has it."""
     name, parent = "libdanivomel.so", Path(__file__).resolve().parent.parent
-    named = os.environ.get("DANIVOMEL_LIBRARY")
-    tried = []
+    named, tried = os.environ.get("DANIVOMEL_LIBRARY"), []
     for path in [named] if named else [parent / name, parent.parent / "target" / "shared" / name, name]:
         try:
             library = CDLL(str(path))
@@ -198,41 +198,41 @@ def _settled(name: str, text: Text, table: Optional[Table], *buffer: Any) -> Any
 
 def level(lows: Iterable[int], highs: Iterable[int], marks: Optional[Iterable[int]], total: int) -> Levelled:
     """Levels a group: answers the most even shares within the lows and highs that add up to the total, with the level
-    and the figures. No other such shares have a lesser deviation or spread. The marks have a number for each member:
-    RUNNING, or SHUT for a member that is off the run, whose range is 0 to 0; None says that all run. A shut member's
-    share is 0, and the figures leave it out.
+    and the figures. No other such shares have a lesser deviation, spread or pair differences. The marks have a number
+    for each member: RUNNING, or SHUT for a member that is off the run, whose range is 0 to 0; None says that all run.
+    A shut member's share is 0, and the figures leave it out.
 
     Refused in this order: 1 for lows, highs and marks empty, of unequal length or over 256; 4 for a low, high or mark
     of a unit beyond its range, place the unit, then for the total, place 0; 7 for a low above its high or a shut
     member's range other than 0 to 0, place the unit; 11 for a total out of reach, place 0.
 
     >>> level([8, 4, 1, 3], [10, 7, 5, 4], None, 20)
-    Levelled(shares=[8, 4, 4, 4], level=4, deviation=24, spread=48)
+    Levelled(shares=[8, 4, 4, 4], level=4, deviation=24, spread=48, pairs=12)
     >>> level([0, 0, 0], [9, 0, 9], [RUNNING, SHUT, RUNNING], 10)
-    Levelled(shares=[5, 0, 5], level=5, deviation=0, spread=0)
+    Levelled(shares=[5, 0, 5], level=5, deviation=0, spread=0, pairs=0)
     """
     group = _group(lows, highs, marks)
     plan, count = _list([0] * group[1])
     answer = _call("level", *group, _number(total), plan, count)
-    return Levelled(list(plan), answer.level, answer.deviation, answer.spread)
+    return Levelled(list(plan), answer.level, answer.deviation, answer.spread, answer.pairs)
 
 
 def narrow(lows: Iterable[int], highs: Iterable[int], marks: Optional[Iterable[int]], total: int,
-           deviation: Optional[int] = None, spread: Optional[int] = None) -> List[Range]:
+           deviation: Optional[int] = None, spread: Optional[int] = None, pairs: Optional[int] = None) -> List[Range]:
     """Narrows a group: answers for each member exactly the values that some plan takes, where a plan is a choice of
-    shares within the lows and highs that add up to the total and are within both limits; None limits nothing. The
+    shares within the lows and highs that add up to the total and are within the three limits; None limits nothing. The
     marks are those of `level`: the figures are the running members', and a shut member keeps its range 0 to 0.
 
     Refused as by `level`, with 4 for the limits too, place 0; then 12 where no shares are within the limits, place 0.
 
-    >>> narrow([8, 4, 1, 3], [10, 7, 5, 4], None, 20, deviation=28)
+    >>> narrow([8, 4, 1, 3], [10, 7, 5, 4], None, 20, deviation=28, pairs=16)
     [Range(low=8, high=8), Range(low=4, high=5), Range(low=3, high=5), Range(low=3, high=4)]
     >>> narrow([0, 0, 0], [9, 0, 9], None, 10, deviation=4)
     Traceback (most recent call last):
     danivomel.Refused: refused 12: the total can be made, but every way breaks a limit
     """
     group = _group(lows, highs, marks)
-    limits = [_LIMIT(limit is None, 0 if limit is None else _number(limit)) for limit in (deviation, spread)]
+    limits = [_LIMIT(limit is None, 0 if limit is None else _number(limit)) for limit in (deviation, spread, pairs)]
     _call("narrow", *group, _number(total), _LIMITS(*limits))
     return [Range(low, high) for low, high in zip(group[0], group[2])]
 
@@ -275,7 +275,7 @@ def report(text: Text, table: Optional[Table] = None) -> Reported:
     (settled 2)
     (unit 1 3 8)
     (unit 2 2 7)
-    (group 1 5 0 0 (plan 5 5))
+    (group 1 5 0 0 0 (plan 5 5))
     """
     buffer = create_string_buffer(65_536)
     answer, left = _settled("report", text, table, buffer, len(buffer))

@@ -108,33 +108,42 @@ class Groups(Calls):
     """One group on lists."""
 
     def test_known_shares(self):
-        self.assertEqual(level(LOWS, HIGHS, None, 20), Levelled([8, 4, 4, 4], 4, 24, 48))
+        self.assertEqual(level(LOWS, HIGHS, None, 20), Levelled([8, 4, 4, 4], 4, 24, 48, 12))
         self.assertEqual(level(iter(LOWS), tuple(HIGHS), (RUNNING for _ in LOWS), 20).shares, [8, 4, 4, 4])
-        self.assertEqual(level([3], [3], [RUNNING], 3), Levelled([3], 1_000_000, 0, 0))
+        self.assertEqual(level([3], [3], [RUNNING], 3), Levelled([3], 1_000_000, 0, 0, 0))
         self.assertEqual(sum(level([0] * 256, [1_000_000] * 256, None, 256_000_000).shares), 256_000_000)
 
     def test_known_ranges(self):
         self.assertEqual(narrow(LOWS, HIGHS, None, 20, deviation=28), [(8, 8), (4, 5), (3, 5), (3, 4)])
         self.assertEqual(narrow(LOWS, HIGHS, None, 20), [(8, 10), (4, 7), (1, 5), (3, 4)])
+        self.assertEqual(narrow(LOWS, HIGHS, None, 20, pairs=16), [(8, 8), (4, 5), (3, 5), (3, 4)])
+        self.assertEqual(narrow(LOWS, HIGHS, None, 20, 28, None, 15), [(8, 8), (4, 4), (4, 4), (4, 4)])
         wish = ([0] * 4, [40_000] * 4, None, 100_000)
         self.assertEqual(narrow(*wish, deviation=8_000), [Range(24_000, 26_000)] * 4)
         self.assertEqual(narrow(*wish, spread=4_000_000), [Range(24_134, 25_866)] * 4)
+        self.assertEqual(narrow(*wish, pairs=3_000), [Range(24_250, 25_750)] * 4)
         self.assertEqual(narrow(*wish, 8_000, 4_000_000), [Range(24_134, 25_866)] * 4)
-        self.assertEqual(narrow(*wish, 0, 0), [Range(25_000, 25_000)] * 4)
+        self.assertEqual(narrow(*wish, 8_000, 4_000_000, 3_000), [Range(24_250, 25_750)] * 4)
+        self.assertEqual(narrow(*wish, 0, 0, 0), [Range(25_000, 25_000)] * 4)
 
     def test_a_limit_of_0_is_a_limit(self):
         self.refused(12, 0, narrow, [0] * 3, [9] * 3, None, 10, deviation=0)
         self.refused(12, 0, narrow, [0] * 3, [9] * 3, None, 10, spread=0)
+        self.refused(12, 0, narrow, [0] * 3, [9] * 3, None, 10, pairs=0)
+        self.refused(12, 0, narrow, [0] * 3, [9] * 3, None, 10, pairs=1)
+        self.assertEqual(narrow([0] * 3, [9] * 3, None, 10, pairs=2), [Range(3, 4)] * 3)
 
     def test_shut_member(self):
         shut, runs = [RUNNING, SHUT, RUNNING, RUNNING], [RUNNING] * 4
         lists = ([0] * 4, [40_000, 0, 40_000, 40_000])
         plan = [30_000, 0, 30_000, 30_000]
-        self.assertEqual(level(*lists, shut, 90_000), Levelled(plan, 30_000, 0, 0))
-        self.assertEqual(level(*lists, runs, 90_000), Levelled(plan, 30_000, 180_000, 2_700_000_000))
+        self.assertEqual(level(*lists, shut, 90_000), Levelled(plan, 30_000, 0, 0, 0))
+        self.assertEqual(level(*lists, runs, 90_000), Levelled(plan, 30_000, 180_000, 2_700_000_000, 90_000))
         running = Range(29_250, 30_750)
         self.assertEqual(narrow(*lists, shut, 90_000, 4_500), [running, Range(0, 0), running, running])
         self.refused(12, 0, narrow, *lists, runs, 90_000, 4_500)
+        self.assertEqual(narrow(*lists, shut, 90_000, pairs=0)[:2], [Range(30_000, 30_000), Range(0, 0)])
+        self.refused(12, 0, narrow, *lists, runs, 90_000, pairs=89_999)
         for call in (level, narrow):
             self.refused(7, 2, call, [0] * 4, [40_000] * 4, shut, 90_000)
 
@@ -147,12 +156,16 @@ class Groups(Calls):
             plans = {}
             for shares in itertools.product(*[range(low, high + 1) for low, high in zip(lows, highs)]):
                 deviation = sum(abs(count * share - total) for share in shares)
+                spread = count * sum(share * share for share in shares) - total * total
+                pairs = sum(abs(one - other) for one, other in itertools.combinations(shares, 2))
                 if sum(shares) == total:
-                    plans[shares] = deviation, count * sum(share * share for share in shares) - total * total
+                    plans[shares] = deviation, spread, pairs
             levelled = level(lows, highs, None, total)
-            self.assertEqual(plans[tuple(levelled.shares)], (levelled.deviation, levelled.spread))
-            self.assertEqual(min(plans.values()), (levelled.deviation, levelled.spread))
-            limits = dice.choice(sorted(plans.values()))
+            figures = (levelled.deviation, levelled.spread, levelled.pairs)
+            self.assertEqual(plans[tuple(levelled.shares)], figures)
+            self.assertEqual(tuple(map(min, *plans.values(), figures)), figures)
+            # each figure of another plan, so that now one limit is the tightest and now another
+            limits = [dice.choice(sorted(plans.values()))[figure] for figure in range(3)]
             within = [shares for shares, figures in plans.items() if all(map(int.__le__, figures, limits))]
             left = [Range(min(shares), max(shares)) for shares in zip(*within)]
             self.assertEqual(narrow(lows, highs, None, total, *limits), left)
@@ -180,9 +193,14 @@ class Wrong(Calls):
         for number in [*BEYOND, 10**18]:
             self.refused(4, 0, narrow, [0, 0], [1, 1], None, 1, deviation=number)
             self.refused(4, 0, narrow, [0, 0], [1, 1], None, 1, spread=number)
+            self.refused(4, 0, narrow, [0, 0], [1, 1], None, 1, pairs=number)
             for call in (settle, report, write):
                 self.refused(4, 2, call, PAIR, [(0, 10), (number, 10)])
                 self.refused(4, 2, call, PAIR, [(0, 10), (0, number)])
+
+    def test_greatest_pairs_limit(self):
+        self.assertEqual(narrow([0, 0], [1, 1], None, 1, pairs=10**11), [Range(0, 1)] * 2)
+        self.refused(4, 0, narrow, [0, 0], [1, 1], None, 1, pairs=10**11 + 1)
 
     def test_numbers_that_are_not_whole(self):
         for number in NOT_WHOLE:
@@ -196,6 +214,7 @@ class Wrong(Calls):
                 if number is not None:
                     self.assertRaises(TypeError, narrow, [0], [1], None, 1, deviation=number)
                     self.assertRaises(TypeError, narrow, [0], [1], None, 1, spread=number)
+                    self.assertRaises(TypeError, narrow, [0], [1], None, 1, pairs=number)
 
     def test_tables(self):
         for call in (settle, report, write):

@@ -21,7 +21,7 @@ const LOWS: [u64; UNITS] = [0, 0, 0, 0];
 const HIGHS: [u64; UNITS] = [40_000, 0, 40_000, 40_000];
 
 /// 500 copies off the mean on average, over three running units: 3 × 3 × 500.
-const LIMITS: Limits = Limits { deviation: Limit::AtMost(4_500), spread: Limit::Any };
+const LIMITS: Limits = Limits { deviation: Limit::AtMost(4_500), ..Limits::ANY };
 
 fn main() {
     show(settled(Range { low: 0, high: 5 }));
@@ -62,7 +62,8 @@ fn levelled(marks: &[u64]) -> Result<String, Refusal> {
     let mut plan = [0; UNITS];
     let found = level(&LOWS, &HIGHS, marks, 90_000, &mut plan)?;
     let shares: String = plan.iter().map(|share| format!(" {share}")).collect();
-    Ok(format!("(group 1 {} {} {} (plan{shares}))\n", found.level, found.deviation.0, found.spread.0))
+    let (deviation, spread, pairs) = (found.deviation.0, found.spread.0, found.pairs.0);
+    Ok(format!("(group 1 {} {deviation} {spread} {pairs} (plan{shares}))\n", found.level))
 }
 
 /// Narrows the group by lists; the ranges that this leaves.

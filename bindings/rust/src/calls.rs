@@ -15,7 +15,8 @@ fn accepted(refusal: Refusal) -> Result<(), Refusal> {
 }
 
 /// Levels a group: writes the most even shares within the lows and highs that add up to the total to the first numbers
-/// of the plan, and answers the level and the figures. No other such shares have a lesser deviation or spread.
+/// of the plan, and answers the level and the figures. No other such shares have a lesser deviation, spread or pair
+/// differences.
 ///
 /// The marks have a number for each member: [`RUNNING`](crate::RUNNING), or [`SHUT`](crate::SHUT) for a member that is
 /// off the run, whose range is 0 to 0. A shut member's share is 0, and the figures leave it out.
@@ -28,11 +29,12 @@ fn accepted(refusal: Refusal) -> Result<(), Refusal> {
 /// as it was.
 ///
 /// ```
-/// use danivomel::{level, Deviation, Spread, RUNNING, SHUT};
+/// use danivomel::{level, Deviation, Pairs, Spread, RUNNING, SHUT};
 /// let mut plan = [0; 4];
 /// let levelled = level(&[8, 4, 1, 3], &[10, 7, 5, 4], &[RUNNING; 4], 20, &mut plan).unwrap();
 /// assert_eq!(plan, [8, 4, 4, 4]);
-/// assert_eq!((levelled.level, levelled.deviation, levelled.spread), (4, Deviation(24), Spread(48)));
+/// assert_eq!(levelled.level, 4);
+/// assert_eq!((levelled.deviation, levelled.spread, levelled.pairs), (Deviation(24), Spread(48), Pairs(12)));
 /// assert_eq!(level(&[8, 4], &[10, 7], &[RUNNING; 2], 18, &mut plan).unwrap_err().number, 11);
 ///
 /// let even = level(&[0; 3], &[9, 0, 9], &[RUNNING, SHUT, RUNNING], 10, &mut plan).unwrap();
@@ -61,8 +63,8 @@ pub fn level(lows: &[u64], highs: &[u64], marks: &[u64], total: u64, plan: &mut 
 }
 
 /// Narrows a group in place: leaves for each member exactly the values that some plan takes, where a plan is a choice
-/// of shares within the lows and highs at the call that add up to the total and are within both limits. The marks are
-/// those of [`level`]: the figures are the running members', and a shut member keeps its range 0 to 0.
+/// of shares within the lows and highs at the call that add up to the total and are within the three limits. The marks
+/// are those of [`level`]: the figures are the running members', and a shut member keeps its range 0 to 0.
 ///
 /// # Errors
 ///
@@ -72,12 +74,15 @@ pub fn level(lows: &[u64], highs: &[u64], marks: &[u64], total: u64, plan: &mut 
 /// ```
 /// use danivomel::{narrow, Limit, Limits, RUNNING, SHUT};
 /// let (mut lows, mut highs) = ([8, 4, 1, 3], [10, 7, 5, 4]);
-/// let limits = Limits { deviation: Limit::AtMost(28), spread: Limit::Any };
+/// let limits = Limits { deviation: Limit::AtMost(28), ..Limits::ANY };
 /// narrow(&mut lows, &mut highs, &[RUNNING; 4], 20, limits).unwrap();
 /// assert_eq!((lows, highs), ([8, 4, 3, 3], [8, 5, 5, 4]));
+/// let limits = Limits { pairs: Limit::AtMost(15), ..limits };
+/// narrow(&mut lows, &mut highs, &[RUNNING; 4], 20, limits).unwrap();
+/// assert_eq!((lows, highs), ([8, 4, 4, 4], [8, 4, 4, 4]));
 ///
 /// let (mut lows, mut highs) = ([0; 3], [9, 0, 9]);
-/// let limits = Limits { deviation: Limit::AtMost(4), spread: Limit::Any };
+/// let limits = Limits { deviation: Limit::AtMost(4), ..Limits::ANY };
 /// narrow(&mut lows, &mut highs, &[RUNNING, SHUT, RUNNING], 10, limits).unwrap();
 /// assert_eq!((lows, highs), ([4, 0, 4], [6, 0, 6]));
 /// assert_eq!(narrow(&mut lows, &mut highs, &[RUNNING; 3], 10, limits).unwrap_err().number, 12);
@@ -176,7 +181,7 @@ pub fn settle(text: &[u8], table: &mut [Range], scratch: &mut [u64]) -> Result<u
 /// let mut table = [Range { low: 3, high: 8 }, Range { low: 0, high: 9 }];
 /// let mut buffer = vec![0; BUFFER_BYTES];
 /// let reported = report(job, &mut table, &mut [0; 2 * SCRATCH_PER_UNIT], &mut buffer).unwrap();
-/// let text = b"(settled 2)\n(unit 1 3 8)\n(unit 2 2 7)\n(group 1 5 0 0 (plan 5 5))\n";
+/// let text = b"(settled 2)\n(unit 1 3 8)\n(unit 2 2 7)\n(group 1 5 0 0 0 (plan 5 5))\n";
 /// assert_eq!(buffer[..reported.length], text[..]);
 /// assert_eq!(reported.passes, 2);
 /// ```

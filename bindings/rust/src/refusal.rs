@@ -57,7 +57,7 @@ impl Refusal {
             1 => "give lists of one length from 1 to 256, or a table, scratch or buffer that is long enough",
             2 | 6 => "split the job",
             3 => "look at its spaces, numbers and inner words",
-            4 => "shares go to 1,000,000, totals to 256,000,000, dev to 100,000,000,000, spread to 100,000,000,000,000,000",
+            4 => "shares go to 1,000,000, totals to 256,000,000, dev and pairs to 100,000,000,000, spread to 100,000,000,000,000,000",
             5 => "put all unit lines first, (shut) too",
             7 => "exchange the two numbers, or correct one",
             8 => "count the unit lines: was one taken out?",

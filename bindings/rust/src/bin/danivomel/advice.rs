@@ -85,8 +85,8 @@ pub fn on_lists(name: &str, group: &GivenGroup, refusal: Refusal) -> String {
     told.ending(refusal)
 }
 
-/// Adds what a group asks for and what its units can do: the sums of lows and highs, and the least figures where the total
-/// can be made. Answers whether the group alone has a plan.
+/// Adds what a group asks for and what its units can do: the sums of lows and highs, and where the total can be made the
+/// least figures, which one choice of shares has, and the limits below them. Answers whether the group alone has a plan.
 fn opening(told: &mut Told, total: u64, limits: Limits, members: &Members) -> bool {
     let (lows, highs): (u64, u64) = (members.lows.iter().sum(), members.highs.iter().sum());
     told.add("opening", &format!("total {total}; the lows of its units add up to {lows}, their highs to {highs}"));
@@ -95,9 +95,16 @@ fn opening(told: &mut Told, total: u64, limits: Limits, members: &Members) -> bo
         Ok(least) => least,
         Err(_) => return false,
     };
-    let (deviation, spread) = (least.deviation.0, least.spread.0);
-    told.add("at least", &format!("deviation {deviation}, spread {spread}; {}", limits_shown(limits)));
-    allows(limits.deviation, deviation) && allows(limits.spread, spread)
+    let (deviation, spread, pairs) = (least.deviation.0, least.spread.0, least.pairs.0);
+    let figures = format!("deviation {deviation}, spread {spread}, pairs {pairs}");
+    told.add("at least", &format!("{figures}; {}", limits_shown(limits)));
+    let limits =
+        [("dev", limits.deviation, deviation), ("spread", limits.spread, spread), ("pairs", limits.pairs, pairs)];
+    let broken: Vec<_> = limits.into_iter().filter(|(_, limit, least)| !allows(*limit, *least)).collect();
+    for (name, limit, least) in &broken {
+        told.add("found", &format!("({name} {}) cannot be met: {least} is the least", limit_shown(*limit)));
+    }
+    broken.is_empty()
 }
 
 /// Whether a limit allows a figure.
@@ -108,9 +115,10 @@ fn allows(limit: Limit, figure: u64) -> bool {
     }
 }
 
-/// Both limits, as they are written.
+/// The three limits, as they are written.
 fn limits_shown(limits: Limits) -> String {
-    format!("limits dev {}, spread {}", limit_shown(limits.deviation), limit_shown(limits.spread))
+    let [deviation, spread, pairs] = [limits.deviation, limits.spread, limits.pairs].map(limit_shown);
+    format!("limits dev {deviation}, spread {spread}, pairs {pairs}")
 }
 
 /// A limit, as it is written.

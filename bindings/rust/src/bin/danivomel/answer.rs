@@ -95,7 +95,8 @@ fn levelled(group: &GivenGroup) -> Result<String, Refusal> {
     let mut plan = vec![0; members.lows.len()];
     let found = level(&members.lows, &members.highs, &members.marks, group.total, &mut plan)?;
     let shares: String = plan.iter().map(|share| format!(" {share}")).collect();
-    Ok(format!("(group 1 {} {} {} (plan{shares}))\n", found.level, found.deviation.0, found.spread.0))
+    let (deviation, spread, pairs) = (found.deviation.0, found.spread.0, found.pairs.0);
+    Ok(format!("(group 1 {} {deviation} {spread} {pairs} (plan{shares}))\n", found.level))
 }
 
 /// The unit lines of a report, for the group of the command line.

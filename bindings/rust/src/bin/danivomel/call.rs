@@ -62,7 +62,7 @@ impl Call {
             "table" => on_job(OnJob::Table, &name, rest),
             "sheet" => on_job(OnJob::Sheet, &name, rest),
             "level" => given_group(&name, rest, &["--total"]).map(Call::Level),
-            "narrow" => given_group(&name, rest, &["--total", "--dev", "--spread"]).map(Call::Narrow),
+            "narrow" => given_group(&name, rest, &["--total", "--dev", "--spread", "--pairs"]).map(Call::Narrow),
             _ => Err(Failure::Wrong(format!("there is no '{name}'; 'danivomel --help' lists what there is"))),
         }
     }
@@ -132,8 +132,11 @@ fn given_group(name: &str, words: &[OsString], options: &[&str]) -> Result<Given
         Some(value) => whole(name, value)?,
         None => return wrong(name, "no --total is given".into()),
     };
-    let limits =
-        Limits { deviation: limit(name, words.value("--dev"))?, spread: limit(name, words.value("--spread"))? };
+    let limits = Limits {
+        deviation: limit(name, words.value("--dev"))?,
+        spread: limit(name, words.value("--spread"))?,
+        pairs: limit(name, words.value("--pairs"))?,
+    };
     if words.others.is_empty() {
         return wrong(name, "no unit is given".into());
     }

@@ -15,7 +15,7 @@ const MARK: &[u8] = b"\xef\xbb\xbf";
 const NO_BREAK: &[u8] = b"\xc2\xa0";
 
 /// All words of a job text.
-const WORDS: [&str; 7] = ["unit", "shut", "group", "dev", "spread", "of", "any"];
+const WORDS: [&str; 8] = ["unit", "shut", "group", "dev", "spread", "pairs", "of", "any"];
 
 /// What can be told of every line, in the order in which it is looked for.
 const EVERYWHERE: [Cause; 4] = [
@@ -30,7 +30,7 @@ const FORMLESS: [Cause; 2] =
     [(is_blank, "a blank line: take it out"), (is_comment, "a comment: take it out, a job has none")];
 
 /// What can be wrong within a form.
-const WITHIN: [Cause; 15] = [
+const WITHIN: [Cause; 18] = [
     (|line| line.contains(&b'\t'), "a tab (^I): one space"),
     (|line| has(line, NO_BREAK), "a no-break space (M-BM- ): one plain space"),
     (|line| line.starts_with(b" "), "a space ahead of the first bracket: take it out"),
@@ -44,8 +44,11 @@ const WITHIN: [Cause; 15] = [
     (is_led_by_zero, "a leading zero: 5, not 05"),
     (|line| line.iter().any(u8::is_ascii_uppercase), "a capital letter: small letters alone"),
     (|line| has(line, b"(of)"), "no unit after of: at least one unit number"),
+    (is_bare, "no limit after its word: a number, or any"),
     (is_doubled, "two lines in one: a line for each"),
     (is_turned, "(spread ..) ahead of (dev ..): first (dev ..), then (spread ..), then (of ..)"),
+    (is_displaced, "(pairs ..) in a wrong place: right after (spread ..), ahead of (of ..)"),
+    (|line| times(line, b"(pairs") > 1, "(pairs ..) twice: once at most"),
 ];
 
 /// The causes that are found on a line.
@@ -74,7 +77,12 @@ fn within(line: &[u8]) -> &[u8] {
 
 /// Whether some bytes are on a line.
 fn has(line: &[u8], bytes: &[u8]) -> bool {
-    line.windows(bytes.len()).any(|part| part == bytes)
+    times(line, bytes) > 0
+}
+
+/// How often some bytes are on a line.
+fn times(line: &[u8], bytes: &[u8]) -> usize {
+    line.windows(bytes.len()).filter(|part| *part == bytes).count()
 }
 
 /// Whether two kinds of bytes are next to each other on a line.
@@ -129,6 +137,21 @@ fn is_doubled(line: &[u8]) -> bool {
 fn is_turned(line: &[u8]) -> bool {
     let place = |word: &str| String::from_utf8_lossy(line).find(word);
     matches!((place("(spread"), place("(dev")), (Some(spread), Some(dev)) if spread < dev)
+}
+
+/// Whether a figure's word has no limit.
+fn is_bare(line: &[u8]) -> bool {
+    ["(dev)", "(spread)", "(pairs)"].iter().any(|word| has(line, word.as_bytes()))
+}
+
+/// Whether a pairs limit is on a line that is no group's, ahead of the spread's limit, or behind the units.
+fn is_displaced(line: &[u8]) -> bool {
+    let text = String::from_utf8_lossy(line);
+    match text.find("(pairs") {
+        None => false,
+        Some(_) if !text.starts_with("(group") => true,
+        Some(pairs) => text[pairs..].contains("(spread") || text[..pairs].contains("(of"),
+    }
 }
 
 /// The first bytes that no form has and no other cause names.

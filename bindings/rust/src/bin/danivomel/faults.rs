@@ -3,9 +3,14 @@
 
 use crate::job::{items, number};
 
-/// The greatest share, total, deviation limit and spread limit.
-const GREATEST: [(&str, u64); 4] =
-    [("unit", 1_000_000), ("group", 256_000_000), ("dev", 100_000_000_000), ("spread", 100_000_000_000_000_000)];
+/// The greatest share and total, and the greatest limit of each figure.
+const GREATEST: [(&str, u64); 5] = [
+    ("unit", 1_000_000),
+    ("group", 256_000_000),
+    ("dev", 100_000_000_000),
+    ("spread", 100_000_000_000_000_000),
+    ("pairs", 100_000_000_000),
+];
 
 /// What is found on a line, with the lines before it.
 pub fn faults(before: &[&[u8]], line: &[u8], refused: u64) -> Vec<String> {

@@ -12,8 +12,9 @@ danivomel shares out whole copies over the units of a press, by proved code.
     danivomel sheet   [FILE]    the same as a picture: danivomel sheet evening.job > plan.svg
     danivomel check   [FILE]    read a job and settle nothing
     danivomel hand-on [FILE]    settle a job and print it as a job text with the settled ranges
-    danivomel level   --total COPIES UNIT..                                the most even share of one group
-    danivomel narrow  --total COPIES [--dev LIMIT] [--spread LIMIT] UNIT..   what each unit of one group may be given
+    danivomel level   --total COPIES UNIT..    the most even share of one group
+    danivomel narrow  --total COPIES [--dev LIMIT] [--spread LIMIT] [--pairs LIMIT] UNIT..
+                                what each unit of one group may be given
 
 Without a FILE the job comes from standard input. A UNIT is LOW..HIGH, or shut; a LIMIT is a number, or any.
 'danivomel NAME --help' has an example of each, 'danivomel --version' prints the version.
@@ -41,8 +42,9 @@ danivomel settle [FILE]: settles a job, from FILE or from standard input, and pr
 
     danivomel settle examples/works.job
 
-The report has the passes, for each unit the range that is left, and for each group its level, its deviation, its spread
-and its most even share. It is what the program settle prints, byte by byte; the exit status says how it went.
+The report has the passes, for each unit the range that is left, and for each group its level, its deviation, its spread,
+its pair differences and its most even share. It is what the program settle prints, byte by byte; the exit status says
+how it went.
 ";
 
 const TABLE: &str = "\
@@ -50,8 +52,8 @@ danivomel table [FILE]: settles a job, from FILE or from standard input, and pri
 
     danivomel table examples/works.job
 
-For each unit the range given and the range left; for each group its total, its mean, the share of each unit, both figures
-and what they are in copies, and what is left of its limits.
+For each unit the range given and the range left; for each group its total, its mean, the share of each unit, the three
+figures and what they are in copies, and what is left of its limits.
 ";
 
 const SHEET: &str = "\
@@ -82,7 +84,7 @@ refusal's line.
 
 const LEVEL: &str = "\
 danivomel level --total COPIES UNIT..: the most even share of one group, as a group's line of a report has it: level,
-deviation, spread and shares.
+deviation, spread, pair differences and shares.
 
     danivomel level --total 20 8..10 4..7 1..5 3..4
 
@@ -91,11 +93,13 @@ off the run.
 ";
 
 const NARROW: &str = "\
-danivomel narrow --total COPIES [--dev LIMIT] [--spread LIMIT] UNIT..: for each unit of one group exactly the range of
-shares that some plan within the limits takes.
+danivomel narrow --total COPIES [--dev LIMIT] [--spread LIMIT] [--pairs LIMIT] UNIT..: for each unit of one group exactly
+the range of shares that some plan within the limits takes.
 
     danivomel narrow --total 20 --dev 28 8..10 4..7 1..5 3..4
+    danivomel narrow --total 20 --pairs 15 8..10 4..7 1..5 3..4
 
-COPIES is the group's total. A LIMIT is a number, or any, which is the same as no limit. A UNIT is LOW..HIGH, the fewest
-and the most copies that it can take, or shut for one that is off the run.
+COPIES is the group's total. --dev limits the deviation, --spread the spread, and --pairs the differences of all pairs of
+units. A LIMIT is a number, or any, which is the same as no limit. A UNIT is LOW..HIGH, the fewest and the most copies
+that it can take, or shut for one that is off the run.
 ";

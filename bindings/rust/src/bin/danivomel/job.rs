@@ -18,7 +18,7 @@ pub struct Job {
 pub struct Group {
     /// The copies that it shares out.
     pub total: u64,
-    /// Its two limits.
+    /// Its three limits.
     pub limits: Limits,
     /// The numbers of its units, counted from 1.
     pub units: Vec<usize>,
@@ -76,12 +76,14 @@ pub fn items(line: &[u8]) -> Vec<String> {
         .collect()
 }
 
-/// A group from the items of its line: the word, the total, a word and a limit for each figure, and the units after `of`.
+/// A group from the items of its line: the word, the total, a word and a limit for each figure, and the units after `of`. A
+/// figure without a word has the limit any.
 fn group(items: &[String]) -> Group {
     let named = |name: &str| items.iter().position(|item| item == name).map_or(items.len(), |index| index + 1);
+    let limit_of = |name: &str| items.get(named(name)).map_or(Limit::Any, |item| limit(item));
     Group {
         total: number(&items[1]),
-        limits: Limits { deviation: limit(&items[named("dev")]), spread: limit(&items[named("spread")]) },
+        limits: Limits { deviation: limit_of("dev"), spread: limit_of("spread"), pairs: limit_of("pairs") },
         units: items[named("of")..].iter().map(|item| number(item) as usize).collect(),
     }
 }

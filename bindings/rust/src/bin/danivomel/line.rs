@@ -2,7 +2,8 @@
 
 /// The forms of a job's lines.
 const UNIT: &str = "(unit LOW HIGH)";
-const GROUP: &str = "(group TOTAL (dev LIMIT) (spread LIMIT) (of UNIT UNIT ..))";
+const GROUP: &str =
+    "(group TOTAL (dev LIMIT) (spread LIMIT) (of UNIT UNIT ..)); (pairs LIMIT) may stand ahead of (of ..)";
 const SHUT: &str = "(shut)";
 const ALL: &str = "(unit LOW HIGH), (shut) or (group TOTAL (dev LIMIT) (spread LIMIT) (of UNIT UNIT ..))";
 

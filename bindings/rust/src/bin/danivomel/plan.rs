@@ -60,6 +60,12 @@ impl Shared {
         self.per_running((self.levelled.spread.0 as f64).sqrt())
     }
 
+    /// The pair differences as the average difference between two running units, in copies; 0 where no two run.
+    pub fn average_difference(&self) -> f64 {
+        let pairs = self.running * self.running.saturating_sub(1) / 2;
+        self.levelled.pairs.0 as f64 / pairs.max(1) as f64
+    }
+
     /// A number for each running unit.
     fn per_running(&self, number: f64) -> f64 {
         number / self.running.max(1) as f64

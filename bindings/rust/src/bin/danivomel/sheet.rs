@@ -55,8 +55,8 @@ pub fn sheet(plan: &Plan, name: &str) -> String {
     page.draw(&mut picture);
     let description = format!(
         "{counts}. Each unit is a bar on a scale of copies: outlined the range given, full the range left, and for \
-         each of its groups a tick at the group's share. Below are each group's total, mean, deviation and spread, \
-         with its limits."
+         each of its groups a tick at the group's share. Below are each group's total, mean, deviation, spread and \
+         pair differences, with its limits."
     );
     let paper = (PAPER.0, PAPER.1 * page.height() / (page.zoom * PAGE.1));
     picture.drawn(paper, (page.zoom * PAGE.0, page.height()), &format!("Plan sheet of {name}"), &description)

@@ -49,21 +49,24 @@ fn of_group(job: &Job, number: usize, group: &Group, shared: &Shared) -> String 
     let running = counted(shared.running, "running unit", "running units");
     let mean = copies(shared.mean());
     let level = shared.levelled.level;
-    let mut lines = format!("\ngroup {number}: total {} over {running}, mean {mean}, level {level}\n", group.total);
-    lines += &shares(job, group, shared);
-    let deviation = shared.levelled.deviation.0;
-    let average = copies(shared.average_distance());
-    lines += &format!(
-        "  deviation {deviation}: {average} copies from the mean on average{}\n",
-        rest(group.limits.deviation, deviation)
-    );
-    let spread = shared.levelled.spread.0;
-    let standard = copies(shared.standard_distance());
+    let heading = format!("\ngroup {number}: total {} over {running}, mean {mean}, level {level}\n", group.total);
+    heading + &shares(job, group, shared) + &figures(group, shared)
+}
+
+/// The figures of a group's shares, what each is in copies, and what its limit leaves.
+fn figures(group: &Group, shared: &Shared) -> String {
+    let (levelled, limits) = (shared.levelled, group.limits);
+    let [average, standard, between] =
+        [shared.average_distance(), shared.standard_distance(), shared.average_difference()].map(copies);
+    let lines = [
+        ("deviation", levelled.deviation.0, format!("{average} copies from the mean on average"), limits.deviation),
+        ("spread", levelled.spread.0, format!("a standard deviation of {standard} copies"), limits.spread),
+        ("pairs", levelled.pairs.0, format!("{between} copies between two units on average"), limits.pairs),
+    ];
     lines
-        + &format!(
-            "  spread {spread}: a standard deviation of {standard} copies{}\n",
-            rest(group.limits.spread, spread)
-        )
+        .iter()
+        .map(|(name, figure, in_copies, limit)| format!("  {name} {figure}: {in_copies}{}\n", rest(*limit, *figure)))
+        .collect()
 }
 
 /// The shares of a group's units, some on each line.

@@ -1,4 +1,4 @@
-//! The groups of a sheet: each a row with its total and mean, and its two figures with gauges of their limits.
+//! The groups of a sheet: each a row with its total and mean, and its three figures with gauges of their limits.
 
 use super::picture::{Anchor, Letters, Picture, Place, ACCENT, GREY, PALE, WHITE};
 use super::words::{decimal, grouped, lines, numbers, units};
@@ -28,6 +28,8 @@ const MOST_LINES: usize = 3;
 const GAUGE: Place = (44.0, 8.0);
 /// How far beside the start of a gauge its figure stands.
 const BESIDE: f64 = GAUGE.0 + 7.0;
+/// The headings of the figures.
+const FIGURES: [&str; 3] = ["deviation from the mean", "spread", "pair differences"];
 
 /// A figure of a group.
 struct Figure {
@@ -45,8 +47,8 @@ struct Row {
     mean: String,
     /// How many units it names, and which.
     units: String,
-    deviation: Figure,
-    spread: Figure,
+    /// Its deviation, spread and pair differences.
+    figures: [Figure; 3],
 }
 
 /// The groups of a plan.
@@ -61,8 +63,11 @@ pub struct Gauges<'a> {
     per_column: usize,
     /// The width of a column.
     column: f64,
-    /// Where in a column totals and units begin, and then means, deviations and spreads.
-    stops: [f64; 4],
+    /// Where in a column totals and units begin, and then means.
+    totals: f64,
+    means: f64,
+    /// Where each figure begins, and how much room it has.
+    figures: [(f64, f64); 3],
 }
 
 impl Figure {
@@ -111,12 +116,16 @@ impl Row {
         };
         let average = copies(shared.average_distance()) + " on average";
         let standard = format!("standard deviation {}", copies(shared.standard_distance()));
+        let between = copies(shared.average_difference()) + " on average";
         Row {
             total: grouped(group.total),
             mean: decimal(shared.mean()),
             units: format!("{}: {}", units(named.len(), named.len() - shared.running), numbers(&named)),
-            deviation: Figure::of(shared.levelled.deviation.0, group.limits.deviation, average),
-            spread: Figure::of(shared.levelled.spread.0, group.limits.spread, standard),
+            figures: [
+                Figure::of(shared.levelled.deviation.0, group.limits.deviation, average),
+                Figure::of(shared.levelled.spread.0, group.limits.spread, standard),
+                Figure::of(shared.levelled.pairs.0, group.limits.pairs, between),
+            ],
         }
     }
 
@@ -154,20 +163,21 @@ impl<'a> Gauges<'a> {
         let totals = SMALL.width("group") + GAP;
         let means = totals + groups.widest(|row| PLAIN.width(&row.total));
         let figures = means + groups.widest(|row| PLAIN.width(&row.mean));
-        let deviation = groups.widest(|row| row.deviation.width());
-        let whole = figures + deviation + groups.widest(|row| row.spread.width()) - GAP;
+        let widths = [0, 1, 2].map(|figure| groups.widest(|row| row.figures[figure].width()));
+        let whole = figures + widths.iter().sum::<f64>() - GAP;
         let columns = ((width + GUTTER) / (whole + GUTTER)).clamp(1.0, groups.count().max(1) as f64) as usize;
         let column = (width + GUTTER) / columns as f64 - GUTTER;
-        // What a column has beyond the least goes to the units as far as they need it, and then to both sides of the
-        // deviations. What it lacks the figures give, half each, and are written smaller.
+        // What a column has beyond the least goes to the units as far as they need it, and then ahead of each figure,
+        // a third each. What it lacks the figures give likewise, and are written smaller.
         let units = totals + groups.widest(|row| SMALL.width(&row.units)) - figures;
         let units = units.min(column - whole).max(0.0);
-        let spare = (column - whole - units) / 2.0;
-        let deviations = figures + units + spare.max(0.0);
+        let spare = (column - whole - units) / 3.0;
+        let first = figures + units + spare.max(0.0);
+        let figures = placed(first, widths, spare);
         let rows = &groups.0;
-        let units = rows.iter().map(|row| row.unit_lines(deviations - GAP - totals)).collect();
+        let units = rows.iter().map(|row| row.unit_lines(first - GAP - totals)).collect();
         let per_column = ((rows.len() + columns - 1) / columns).max(1);
-        Gauges { rows, units, per_column, column, stops: [totals, means, deviations, deviations + deviation + spare] }
+        Gauges { rows, units, per_column, column, totals, means, figures }
     }
 
     /// The height of all rows: that of the highest column.
@@ -186,12 +196,12 @@ impl<'a> Gauges<'a> {
 
     /// Draws the column that begins with a group: its headings and its rows.
     fn draw_column(&self, picture: &mut Picture, (x, y): Place, first: usize) {
-        let [totals, means, deviations, spreads] = self.stops;
         picture.text((x, y + 10.0), Anchor::Start, SMALL, "group");
-        picture.text((x + totals, y + 10.0), Anchor::Start, SMALL, "total");
-        picture.text((x + means, y + 10.0), Anchor::Start, SMALL, "mean");
-        picture.text((x + deviations + BESIDE, y + 10.0), Anchor::Start, SMALL, "deviation from the mean");
-        picture.text((x + spreads + BESIDE, y + 10.0), Anchor::Start, SMALL, "spread");
+        picture.text((x + self.totals, y + 10.0), Anchor::Start, SMALL, "total");
+        picture.text((x + self.means, y + 10.0), Anchor::Start, SMALL, "mean");
+        for ((start, _), heading) in self.figures.iter().zip(FIGURES) {
+            picture.text((x + start + BESIDE, y + 10.0), Anchor::Start, SMALL, heading);
+        }
         let mut top = y + HEAD;
         for index in first..self.rows.len().min(first + self.per_column) {
             self.draw_row(picture, (x, top), index);
@@ -201,17 +211,27 @@ impl<'a> Gauges<'a> {
 
     /// Draws the row of a group under a thin line.
     fn draw_row(&self, picture: &mut Picture, (x, y): Place, index: usize) {
-        let [totals, means, deviations, spreads] = self.stops;
         let row = &self.rows[index];
         picture.line((x, y - 3.0), (x + self.column, y - 3.0), (PALE, 1.0));
         picture.text((x, y + 13.0), Anchor::Start, NUMBER, &(index + 1).to_string());
-        picture.text((x + totals, y + 13.0), Anchor::Start, PLAIN, &row.total);
-        picture.text((x + means, y + 13.0), Anchor::Start, PLAIN, &row.mean);
-        row.deviation.draw(picture, (x + deviations, y), spreads - GAP - deviations);
-        row.spread.draw(picture, (x + spreads, y), self.column - spreads);
-        let places = (0..).map(|line| (x + totals, y + 26.0 + LINE * f64::from(line)));
+        picture.text((x + self.totals, y + 13.0), Anchor::Start, PLAIN, &row.total);
+        picture.text((x + self.means, y + 13.0), Anchor::Start, PLAIN, &row.mean);
+        for (figure, (start, room)) in row.figures.iter().zip(self.figures) {
+            figure.draw(picture, (x + start, y), room);
+        }
+        let places = (0..).map(|line| (x + self.totals, y + 26.0 + LINE * f64::from(line)));
         places.zip(&self.units[index]).for_each(|(place, line)| picture.text(place, Anchor::Start, SMALL, line));
     }
+}
+
+/// Where figures of some widths stand from a place on, each with its room: its width and what there is to spare, or lacking.
+fn placed(first: f64, widths: [f64; 3], spare: f64) -> [(f64, f64); 3] {
+    let mut start = first;
+    widths.map(|width| {
+        let figure = (start, width + spare - GAP);
+        start += width + spare;
+        figure
+    })
 }
 
 /// The height of a row, given its units in lines.
