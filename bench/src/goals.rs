@@ -107,7 +107,7 @@ fn pairs_goals(pairs: &[pairs::Timed]) -> Vec<Goal> {
             2.0,
         ),
         goal(
-            "narrowing where the pairs limit alone takes something away, planner / without it, greatest of all rows",
+            "narrowing with a tight pairs limit beside two loose ones, planner / without it, greatest of all rows",
             worst(times(|timed| timed.pairs != timed.tightness), WITHOUT),
             true,
             2.0,

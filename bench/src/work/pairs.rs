@@ -24,7 +24,7 @@ pub struct Timed {
 }
 
 /// The columns of the table.
-const HEAD: [&str; 16] = [
+const HEAD: [&str; 17] = [
     "members",
     "other limits",
     "pairs limit",
@@ -41,6 +41,7 @@ const HEAD: [&str; 16] = [
     "planner / Gecode, propagation alone",
     "Gecode, pair by pair, µs",
     "Gecode, pair by pair, propagation alone, µs",
+    "planner / Gecode, pair by pair, propagation alone",
 ];
 
 /// Times narrowing with and without a pairs limit.
@@ -48,19 +49,24 @@ pub fn run() -> (Table, Vec<Timed>) {
     let mut table = Table::new("pairs", &HEAD);
     let mut all = vec![];
     for n in SIZES {
-        for (tightness, pairs) in KINDS {
-            for first in [true, false] {
-                let times = measure(paired_groups_of(n, COMMON, tightness, pairs), first);
-                table.add(row(n, (tightness, pairs), first, &times));
-                all.push(Timed { n, tightness, pairs, times });
-            }
+        for (tightness, pairs, first) in KINDS {
+            let times = measure(paired_groups_of(n, COMMON, tightness, pairs), first);
+            table.add(row(n, (tightness, pairs), first, &times));
+            all.push(Timed { n, tightness, pairs, times });
         }
     }
     (table, all)
 }
 
-/// The kinds of limits: all alike, and one under which the pairs alone take something away.
-const KINDS: [(Tightness, Tightness); 3] = [(Loose, Loose), (Tight, Tight), (Loose, Tight)];
+/// The kinds of calls: all limits alike, and limits of which that of the pairs takes most away.
+const KINDS: [(Tightness, Tightness, bool); 6] = [
+    (Loose, Loose, true),
+    (Loose, Loose, false),
+    (Tight, Tight, true),
+    (Tight, Tight, false),
+    (Loose, Tight, true),
+    (Loose, Tight, false),
+];
 
 /// Times all contenders on groups of one size.
 fn measure(groups: Vec<GroupCase>, first: bool) -> Times {
@@ -93,6 +99,7 @@ fn row(n: usize, (tightness, pairs): (Tightness, Tightness), first: bool, times:
         digits(times.ratio(PLANNER, GECODE_ALONE)),
         digits(times.of(GECODE_BY_PAIR)),
         digits(times.of(GECODE_BY_PAIR_ALONE)),
+        digits(times.ratio(PLANNER, GECODE_BY_PAIR_ALONE)),
     ]
 }
 
