@@ -34,6 +34,13 @@ IntVar scaled(Space &home, IntVar x, long long factor, long long less) {
     return y;
 }
 
+// x - y, as a variable.
+IntVar difference(Space &home, IntVar x, IntVar y) {
+    IntVar z(home, x.min() - y.max(), x.max() - y.min());
+    linear(home, IntArgs({1, -1, -1}), IntVarArgs() << x << y << z, IRT_EQ, 0, IPL_BND);
+    return z;
+}
+
 // The greatest distance of a variable's values from 0.
 int reach(IntVar x) { return std::max(std::abs(x.min()), std::abs(x.max())); }
 
@@ -53,25 +60,25 @@ IntVar square(Space &home, IntVar x) {
     return y;
 }
 
-// The sum of the terms is at most a number, which may be too large for one constant of Gecode.
-void at_most(Space &home, const IntVarArgs &terms, long long most) {
-    if (most <= GREATEST) {
-        linear(home, terms, IRT_LQ, static_cast<int>(std::max(most, -1LL)), IPL_BND);
-        return;
-    }
+// The sum of the terms, each times its factor, is at most a number, which may be too large for one constant of Gecode.
+void at_most(Space &home, IntArgs factors, IntVarArgs terms, long long most) {
     const int part = 1 << 30;
-    IntVar parts(home, static_cast<int>(most / part), static_cast<int>(most / part));
-    IntArgs factors(terms.size() + 1);
-    for (int i = 0; i < terms.size(); i++) {
-        factors[i] = 1;
+    if (most > GREATEST) {
+        factors << -part;
+        terms << IntVar(home, static_cast<int>(most / part), static_cast<int>(most / part));
+        most %= part;
     }
-    factors[terms.size()] = -part;
-    linear(home, factors, terms + parts, IRT_LQ, static_cast<int>(most % part), IPL_BND);
+    linear(home, factors, terms, IRT_LQ, static_cast<int>(std::max(most, -1LL)), IPL_BND);
+}
+
+// The same for a plain sum.
+void at_most(Space &home, const IntVarArgs &terms, long long most) {
+    at_most(home, IntArgs::create(terms.size(), 1, 0), terms, most);
 }
 
 // One group of a job.
 struct Group {
-    long long total, deviation, spread;
+    long long total, deviation, spread, pairs;
     IntVarArgs shares;
 
     long long n() const { return shares.size(); }
@@ -117,12 +124,36 @@ struct Group {
         }
     }
 
-    void post(Space &home, int form) const {
-        linear(home, shares, IRT_EQ, static_cast<int>(total), IPL_BND);
-        if (form == PEER_CENTRED) {
-            post_centred(home);
-            return;
+    // The sum of |share - other| over all pairs is at most the limit: a difference for each pair, and its distance from 0.
+    void post_pairs(Space &home) const {
+        IntVarArgs parts;
+        for (int i = 0; i < n(); i++) {
+            append_distances(home, i, parts);
         }
+        at_most(home, parts, pairs);
+    }
+
+    // Appends the distances of a share from those before it.
+    void append_distances(Space &home, int i, IntVarArgs &parts) const {
+        for (int j = 0; j < i; j++) {
+            parts << distance(home, difference(home, shares[i], shares[j]));
+        }
+    }
+
+    // The same from the shares in order: the k-th of n, from 0, is the larger one in k pairs and the smaller one in the others.
+    void post_ordered(Space &home) const {
+        int least = shares[0].min(), greatest = shares[0].max();
+        for (int i = 1; i < n(); i++) {
+            least = std::min(least, shares[i].min());
+            greatest = std::max(greatest, shares[i].max());
+        }
+        const IntVarArgs ordered(home, n(), least, greatest);
+        sorted(home, shares, ordered);
+        at_most(home, IntArgs::create(n(), 1 - n(), 2), ordered, pairs);
+    }
+
+    // The figures of the first two limits as they are written.
+    void post_written(Space &home) const {
         if (deviation >= 0) {
             post_deviation(home);
         }
@@ -130,17 +161,34 @@ struct Group {
             post_spread(home);
         }
     }
+
+    void post(Space &home, int form) const {
+        linear(home, shares, IRT_EQ, static_cast<int>(total), IPL_BND);
+        if (form == PEER_WRITTEN) {
+            post_written(home);
+        } else {
+            post_centred(home);
+        }
+        if (pairs < 0) {
+            return;
+        }
+        if (form == PEER_CENTRED) {
+            post_ordered(home);
+        } else {
+            post_pairs(home);
+        }
+    }
 };
 
 // Posts every group of the list.
 void post_groups(Job &job, const int64_t *groups, size_t count, int form) {
     for (const int64_t *at = groups; at < groups + count;) {
-        Group group{at[0], at[1], at[2], IntVarArgs(static_cast<int>(at[3]))};
+        Group group{at[0], at[1], at[2], at[3], IntVarArgs(static_cast<int>(at[4]))};
         for (int i = 0; i < group.n(); i++) {
-            group.shares[i] = job.shares[at[4 + i]];
+            group.shares[i] = job.shares[at[5 + i]];
         }
         group.post(job, form);
-        at += 4 + group.n();
+        at += 5 + group.n();
     }
 }
 

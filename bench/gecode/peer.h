@@ -15,8 +15,11 @@ extern "C" {
 /* How a propagation ends. */
 enum { PEER_LEFT = 0, PEER_REFUSED = 1, PEER_BEYOND = 2 };
 
-/* The form in which the figures are posted: as they are written, or about the mean, which prunes more. */
-enum { PEER_WRITTEN = 0, PEER_CENTRED = 1 };
+/*
+ * The form in which the figures are posted: as they are written; or squares about the mean and pairs from the shares in
+ * order, which prunes more; or squares about the mean and pairs as they are written.
+ */
+enum { PEER_WRITTEN = 0, PEER_CENTRED = 1, PEER_BY_PAIR = 2 };
 
 /* How it ended, how many values are left in all, and the nanoseconds of the propagation alone. */
 typedef struct {
@@ -26,8 +29,8 @@ typedef struct {
 } peer_answer;
 
 /*
- * Posts and propagates. The groups are one list of numbers, for each group: total, deviation limit, spread limit
- * (a limit below 0 is none), the count of its members, and the members, units counted from 0.
+ * Posts and propagates. The groups are one list of numbers, for each group: total, deviation limit, spread limit,
+ * pairs limit (a limit below 0 is none), the count of its members, and the members, units counted from 0.
  * PEER_LEFT writes the ends of what is left to lows and highs; PEER_REFUSED and PEER_BEYOND (a number that is too
  * large for Gecode) leave them.
  */

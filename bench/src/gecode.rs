@@ -1,6 +1,6 @@
 //! The peer in Gecode: a job's groups posted and propagated at the root; gecode/peer.h says how.
 
-use crate::planners::{GECODE, GECODE_ALONE};
+use crate::planners::{GECODE, GECODE_ALONE, GECODE_BY_PAIR, GECODE_BY_PAIR_ALONE};
 use crate::timing::Contender;
 use danivomel::Limit;
 use danivomel_tests::independent::reader::Group;
@@ -12,8 +12,10 @@ use std::rc::Rc;
 pub enum Form {
     /// As the specification writes them.
     Written = 0,
-    /// About the mean.
+    /// Squares about the mean, pairs from the shares in order.
     Centred = 1,
+    /// Squares about the mean, pairs as the specification writes them.
+    ByPair = 2,
 }
 
 /// How a propagation ends.
@@ -57,6 +59,7 @@ impl Posted {
             numbers.push(group.total as i64);
             numbers.push(limit(group.limits.deviation));
             numbers.push(limit(group.limits.spread));
+            numbers.push(limit(group.limits.pairs));
             numbers.push(group.members.len() as i64);
             numbers.extend(group.members.iter().map(|&unit| unit as i64));
         }
@@ -95,20 +98,24 @@ pub struct Problem<'a> {
     pub posted: Posted,
 }
 
-/// Two contenders that post and propagate all problems, about the mean: one timed whole, one for its propagation alone.
-pub fn contenders<'a>(problems: Vec<Problem<'a>>) -> [Contender<'a>; 2] {
+/// Two contenders that post and propagate all problems in a form: one timed whole, one for its propagation alone.
+pub fn contenders<'a>(problems: Vec<Problem<'a>>, form: Form) -> [Contender<'a>; 2] {
+    let (name, name_alone) = match form {
+        Form::ByPair => (GECODE_BY_PAIR, GECODE_BY_PAIR_ALONE),
+        _ => (GECODE, GECODE_ALONE),
+    };
     let problems = Rc::new(problems);
-    let (mut whole, mut alone) = (work(problems.clone()), work(problems));
+    let (mut whole, mut alone) = (work(problems.clone(), form), work(problems, form));
     [
-        Contender::whole(GECODE, move || {
+        Contender::whole(name, move || {
             whole();
         }),
-        Contender::part(GECODE_ALONE, move || alone() / 1_000.0),
+        Contender::part(name_alone, move || alone() / 1_000.0),
     ]
 }
 
 /// Posts and propagates all problems, and answers the nanoseconds of the propagation alone.
-fn work<'a>(problems: Rc<Vec<Problem<'a>>>) -> impl FnMut() -> f64 + 'a {
+fn work<'a>(problems: Rc<Vec<Problem<'a>>>, form: Form) -> impl FnMut() -> f64 + 'a {
     let (mut lows, mut highs) = (vec![], vec![]);
     move || {
         let mut nanoseconds = 0.0;
@@ -117,7 +124,7 @@ fn work<'a>(problems: Rc<Vec<Problem<'a>>>) -> impl FnMut() -> f64 + 'a {
             highs.clear();
             lows.extend_from_slice(opening_lows);
             highs.extend_from_slice(opening_highs);
-            nanoseconds += propagate(black_box(posted), &mut lows, &mut highs, Form::Centred).1;
+            nanoseconds += propagate(black_box(posted), &mut lows, &mut highs, form).1;
         }
         nanoseconds
     }

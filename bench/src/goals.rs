@@ -1,16 +1,17 @@
 //! The goals of the planner's speed, each with its figure in this run.
 
 use crate::jobs::Tightness;
-use crate::planners::{BISECTION, GECODE, GECODE_ALONE, PLANNER, ROWS};
+use crate::planners::{BISECTION, GECODE, GECODE_ALONE, PLANNER, ROWS, WITHOUT};
 use crate::table::{digits, Table};
 use crate::timing::Times;
-use crate::work::narrow::Timed;
+use crate::work::{narrow, pairs};
 
 /// The times that goals are about.
 pub struct Results {
     pub level: Vec<Times>,
-    pub narrow: Vec<Timed>,
+    pub narrow: Vec<narrow::Timed>,
     pub unkind: Vec<(usize, Times)>,
+    pub pairs: Vec<pairs::Timed>,
     pub read: Vec<Times>,
     pub settle: Vec<(String, Times)>,
     pub write: Vec<Times>,
@@ -27,7 +28,7 @@ struct Goal {
 /// The goals as a table.
 pub fn run(results: &Results) -> Table {
     let mut table = Table::new("goals", &["goal", "figure", "bound", "met"]);
-    for Goal { what, figure, most, bound } in goals(results) {
+    for Goal { what, figure, most, bound } in goals(results).into_iter().chain(pairs_goals(&results.pairs)) {
         let figure = figure.expect("every goal is measured");
         let met = if most { figure <= bound } else { figure >= bound };
         table.add(vec![
@@ -42,8 +43,9 @@ pub fn run(results: &Results) -> Table {
 
 /// All goals.
 fn goals(results: &Results) -> Vec<Goal> {
-    let Results { level, narrow, unkind, read, settle, write } = results;
-    let sized = || narrow.iter().map(|timed| (timed.n, &timed.times)).chain(unkind.iter().map(|(n, times)| (*n, times)));
+    let Results { level, narrow, unkind, read, settle, write, .. } = results;
+    let sized =
+        || narrow.iter().map(|timed| (timed.n, &timed.times)).chain(unkind.iter().map(|(n, times)| (*n, times)));
     let narrowing = || sized().map(|(_, times)| times);
     let of_size = |many: bool| sized().filter(move |(n, _)| (*n >= 8) == many).map(|(_, times)| times);
     let settling = || settle.iter().map(|(_, times)| times);
@@ -55,7 +57,6 @@ fn goals(results: &Results) -> Vec<Goal> {
     };
     let milliseconds =
         |job: &str| settle.iter().find(|(name, _)| name == job)?.1.of(PLANNER).map(|time| time / 1_000.0);
-    let goal = |what, figure, most, bound| Goal { what, figure, most, bound };
     vec![
         goal("levelling, planner / plain Rust, greatest of all sizes", worst(level.iter(), BISECTION), true, 1.2),
         goal(
@@ -92,6 +93,43 @@ fn goals(results: &Results) -> Vec<Goal> {
         goal("settling 16 × 256, milliseconds", milliseconds("16 × 256"), true, 20.0),
         goal("settling 64 × 8, milliseconds", milliseconds("64 × 8"), true, 2.0),
     ]
+}
+
+/// The goals of narrowing with a pairs limit.
+fn pairs_goals(pairs: &[pairs::Timed]) -> Vec<Goal> {
+    let times =
+        |chosen: fn(&pairs::Timed) -> bool| pairs.iter().filter(move |timed| chosen(timed)).map(|timed| &timed.times);
+    vec![
+        goal(
+            "narrowing with a pairs limit as tight as the others, planner / without it, greatest of all rows",
+            worst(times(|timed| timed.pairs == timed.tightness), WITHOUT),
+            true,
+            2.0,
+        ),
+        goal(
+            "narrowing with a tight pairs limit beside two loose ones, planner / without it, greatest of all rows",
+            worst(times(|timed| timed.pairs != timed.tightness), WITHOUT),
+            true,
+            2.0,
+        ),
+        goal(
+            "narrowing 8 members and more with a pairs limit, planner / plain Rust of the same way, greatest of all rows",
+            worst(times(|timed| timed.n >= 8), ROWS),
+            true,
+            1.2,
+        ),
+        goal(
+            "narrowing fewer members with a pairs limit, planner / plain Rust of the same way, greatest of all rows",
+            worst(times(|timed| timed.n < 8), ROWS),
+            true,
+            1.35,
+        ),
+    ]
+}
+
+/// A goal.
+fn goal(what: &'static str, figure: Option<f64>, most: bool, bound: f64) -> Goal {
+    Goal { what, figure, most, bound }
 }
 
 /// The greatest ratio of the planner's time to another's.

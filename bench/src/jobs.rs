@@ -5,7 +5,9 @@ use danivomel_tests::cases::groups::GroupCase;
 use danivomel_tests::cases::jobs::print_job;
 use danivomel_tests::independent::level::{clamp, figures};
 use danivomel_tests::independent::reader::{Group, Job};
-use danivomel_tests::independent::{self, GREATEST_DEVIATION, GREATEST_SPREAD, MOST_UNITS, RUNNING, SHUT};
+use danivomel_tests::independent::{
+    self, GREATEST_DEVIATION, GREATEST_PAIRS, GREATEST_SPREAD, MOST_UNITS, RUNNING, SHUT,
+};
 use danivomel_tests::random::Random;
 
 /// The seed of everything that is drawn.
@@ -38,23 +40,29 @@ impl Tightness {
         Limit::AtMost(most.min(greatest))
     }
 
-    /// Limits for a group's shares.
-    fn limits(self, lows: &[u64], highs: &[u64], ordinary: &[u64]) -> Limits {
+    /// Limits for a group's shares, that of the pairs by another tightness.
+    fn limits(self, pairs: Tightness, lows: &[u64], highs: &[u64], ordinary: &[u64]) -> Limits {
         let total = ordinary.iter().sum();
         let (mut plan, marks) = (vec![0; lows.len()], vec![RUNNING; lows.len()]);
         let least =
             independent::level(lows, highs, &marks, total, &mut plan).expect("ordinary shares are in the ranges");
-        let (deviation, spread) = figures(ordinary, &marks, total);
+        let (deviation, spread, all_pairs) = figures(ordinary, &marks, total);
         Limits {
             deviation: self.limit(lows.len(), least.deviation.0, deviation.0, GREATEST_DEVIATION),
             spread: self.limit(lows.len(), least.spread.0, spread.0, GREATEST_SPREAD),
+            pairs: pairs.limit(lows.len(), least.pairs.0, all_pairs.0, GREATEST_PAIRS),
         }
     }
 }
 
 /// A group of ranges between two random shares each, with a total that is a multiple of n, so that Gecode can take its
-/// leanest form.
+/// leanest form, and without a pairs limit.
 pub fn group(random: &mut Random, n: usize, greatest: u64, tightness: Tightness) -> GroupCase {
+    paired_group(random, n, greatest, tightness, tightness).under_pairs(Limit::Any)
+}
+
+/// The same group with a pairs limit.
+pub fn paired_group(random: &mut Random, n: usize, greatest: u64, tightness: Tightness, pairs: Tightness) -> GroupCase {
     let (mut lows, mut highs, mut ordinary) = (vec![], vec![], vec![]);
     for _ in 0..n {
         let (first, second) = (random.between(0, greatest), random.between(0, greatest));
@@ -69,15 +77,25 @@ pub fn group(random: &mut Random, n: usize, greatest: u64, tightness: Tightness)
         left -= less;
     }
     assert_eq!(left, 0, "the ranges are wide enough for a total that n divides");
-    let limits = tightness.limits(&lows, &highs, &ordinary);
+    let limits = tightness.limits(pairs, &lows, &highs, &ordinary);
     GroupCase { lows, highs, marks: vec![RUNNING; n], total: ordinary.iter().sum(), limits }
 }
 
 /// Some groups of one size: fewer where they are large.
 pub fn groups_of(n: usize, greatest: u64, tightness: Tightness) -> Vec<GroupCase> {
     let mut random = Random::new(SEED + n as u64);
-    let count = (256 / n).clamp(2, 16);
-    (0..count).map(|_| group(&mut random, n, greatest, tightness)).collect()
+    (0..count_of(n)).map(|_| group(&mut random, n, greatest, tightness)).collect()
+}
+
+/// The same groups with a pairs limit.
+pub fn paired_groups_of(n: usize, greatest: u64, tightness: Tightness, pairs: Tightness) -> Vec<GroupCase> {
+    let mut random = Random::new(SEED + n as u64);
+    (0..count_of(n)).map(|_| paired_group(&mut random, n, greatest, tightness, pairs)).collect()
+}
+
+/// How many groups of a size are timed.
+fn count_of(n: usize) -> usize {
+    (256 / n).clamp(2, 16)
 }
 
 /// Such groups with a shut member between each two running ones and the next two: a third of n members is shut.
@@ -151,19 +169,21 @@ fn job_over(groups: usize, n: usize, most: usize) -> Job {
 fn group_of_choice(random: &mut Random, choice: &[u64], members: &[usize]) -> Group {
     let shares: Vec<u64> = members.iter().map(|&unit| choice[unit]).collect();
     let total = shares.iter().sum();
-    let (deviation, spread) = figures(&shares, &vec![RUNNING; shares.len()], total);
-    let mut limits = Limits { deviation: Limit::AtMost(deviation.0), spread: Limit::AtMost(spread.0) };
+    let (deviation, spread, _) = figures(&shares, &vec![RUNNING; shares.len()], total);
+    let mut limits =
+        Limits { deviation: Limit::AtMost(deviation.0), spread: Limit::AtMost(spread.0), pairs: Limit::Any };
     match random.between(0, 3) {
         0 => limits.deviation = Limit::Any,
         1 => limits.spread = Limit::Any,
         _ => {}
     }
-    Group { total, limits, members: members.to_vec() }
+    Group { total, limits, says_pairs: false, members: members.to_vec() }
 }
 
 /// Two groups over the same two units whose totals differ by one: each pass takes one value off each end.
 pub fn slow_job(width: u64) -> Job {
-    let group = |total, members: [usize; 2]| Group { total, limits: Limits::ANY, members: members.to_vec() };
+    let group =
+        |total, members: [usize; 2]| Group { total, limits: Limits::ANY, says_pairs: false, members: members.to_vec() };
     let groups = vec![group(width, [0, 1]), group(width + 1, [1, 0])];
     Job { lows: vec![0; 2], highs: vec![width; 2], marks: vec![RUNNING; 2], groups }
 }

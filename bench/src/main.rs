@@ -71,6 +71,8 @@ fn measured(start: Instant) -> (Vec<Table>, Results, Vec<Row>) {
     let wide = work::narrow::run_wide();
     step("narrowing one unkind group");
     let (unkinds, unkind) = work::unkind::run();
+    step("narrowing one group with a pairs limit");
+    let (paireds, pairs) = work::pairs::run();
     step("reading");
     let (reads, read) = work::read::run();
     step("settling");
@@ -83,15 +85,17 @@ fn measured(start: Instant) -> (Vec<Table>, Results, Vec<Row>) {
     let shut = work::shut::run();
     step("what Gecode leaves");
     let filtering = work::filtering::run();
+    step("what Gecode leaves under a pairs limit");
+    let pairs_left = work::pairs::run_left();
     step("what Gecode does not refuse");
     let refusals = work::filtering::run_refusals();
     step("the experiment of 001");
     let (paper, rows) = work::paper::run();
     step("the goals");
-    let mut tables =
-        vec![levels, narrows, growth, wide, unkinds, reads, settles, reports, writes, shut, filtering, refusals];
+    let mut tables = vec![levels, narrows, growth, wide, unkinds, paireds, reads, settles, reports, writes, shut];
+    tables.extend([filtering, pairs_left, refusals]);
     tables.extend(paper);
-    (tables, Results { level, narrow, unkind, read, settle, write }, rows)
+    (tables, Results { level, narrow, unkind, pairs, read, settle, write }, rows)
 }
 
 /// What there is to know about a run.

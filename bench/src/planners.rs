@@ -13,10 +13,18 @@ pub const BISECTION: &str = "plain Rust, bisection";
 pub const ROWS: &str = "plain Rust, rows";
 /// The proved planner on the running members alone, where others have shut members too.
 pub const ALONE: &str = "planner, running members alone";
-/// Gecode with the figures posted about the mean: making the variables, posting and propagating.
+/// The proved planner on the same groups without their pairs limit.
+pub const WITHOUT: &str = "planner, without the pairs limit";
+/// Plain Rust of the same way likewise.
+pub const ROWS_WITHOUT: &str = "plain Rust, rows, without the pairs limit";
+/// Gecode with squares posted about the mean, and pairs from the shares in order: making the variables, posting and propagating.
 pub const GECODE: &str = "Gecode";
 /// Of that, the propagation alone.
 pub const GECODE_ALONE: &str = "Gecode, propagation alone";
+/// Gecode with squares posted about the mean, and a distance for each pair.
+pub const GECODE_BY_PAIR: &str = "Gecode, pair by pair";
+/// Of that, the propagation alone.
+pub const GECODE_BY_PAIR_ALONE: &str = "Gecode, pair by pair, propagation alone";
 
 /// Who levels.
 pub const LEVELS: &[(&str, Level)] = &[(BISECTION, independent::level), (PLANNER, danivomel::level)];

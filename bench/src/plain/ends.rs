@@ -77,7 +77,7 @@ fn search(table: &Table, member: Member, end: u64, near: usize, shared: &mut Sha
         let inward = match taken {
             _ if tries == NEWTON_STEPS => far / 2,
             true => far - 1,
-            false => table.step(outer, found).clamp(1, far - 1),
+            false => table.step(trial, row, found).clamp(1, far - 1),
         };
         tries = (tries + 1).min(NEWTON_STEPS);
         trial.value = if outer < inner { outer + inward } else { outer - inward };

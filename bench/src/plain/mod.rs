@@ -1,11 +1,14 @@
 //! Narrowing in plain Rust the way that the proved planner goes, by rows; same answers as the independent planner, which
 //! walks the group at each step. And settling with it.
 
+mod apart;
 mod ends;
+mod newton;
 mod probe;
 mod rows;
 
-use danivomel::{Limits, Range, Refusal, Unsettled};
+use apart::Apart;
+use danivomel::{Limit, Limits, Range, Refusal, Unsettled};
 use danivomel_tests::independent::level::{clamp, has_shares};
 use danivomel_tests::independent::narrow::{check_lists, Terms};
 use danivomel_tests::independent::settle::settle_job;
@@ -54,12 +57,26 @@ fn narrow_running(lows: &mut [u64], highs: &mut [u64], total: u64, limits: Limit
         return Ok(());
     }
     match lows.len() {
-        0..=4 => narrow_within(lows, highs, total, limits, &mut Room::<4, 9>::new()),
-        5..=8 => narrow_within(lows, highs, total, limits, &mut Room::<8, 17>::new()),
-        9..=16 => narrow_within(lows, highs, total, limits, &mut Room::<16, 33>::new()),
-        17..=64 => narrow_within(lows, highs, total, limits, &mut Room::<64, 129>::new()),
-        _ => narrow_within(lows, highs, total, limits, &mut Room::<256, 513>::new()),
+        0..=4 => narrow_sized::<4, 9>(lows, highs, total, limits),
+        5..=8 => narrow_sized::<8, 17>(lows, highs, total, limits),
+        9..=16 => narrow_sized::<16, 33>(lows, highs, total, limits),
+        17..=64 => narrow_sized::<64, 129>(lows, highs, total, limits),
+        _ => narrow_sized::<256, 513>(lows, highs, total, limits),
     }
+}
+
+/// Narrows a group that has shares and at most N members. Where pairs are not limited, no room for them is cleared.
+fn narrow_sized<const N: usize, const R: usize>(
+    lows: &mut [u64],
+    highs: &mut [u64],
+    total: u64,
+    limits: Limits,
+) -> Result<(), u64> {
+    let mut room = Room::<N, R>::new();
+    if limits.pairs == Limit::Any {
+        return narrow_within(lows, highs, total, limits, &mut room, &mut []);
+    }
+    narrow_within(lows, highs, total, limits, &mut room, &mut [Apart::default(); R])
 }
 
 /// Narrows a group that has shares.
@@ -69,8 +86,10 @@ fn narrow_within<const N: usize, const R: usize>(
     total: u64,
     limits: Limits,
     room: &mut Room<N, R>,
+    apart: &mut [Apart],
 ) -> Result<(), u64> {
-    let table = Table { rows: room.rows(lows, highs), terms: Compared::of(lows, highs, total, limits) };
+    let rows = room.rows(lows, highs, apart);
+    let table = Table { rows, apart, terms: Compared::of(lows, highs, total, limits) };
     let near = table.row_of(Trial::default(), table.rows.len() / 2);
     let levelled = table.look(Trial::default(), near);
     if !table.allows(levelled) {

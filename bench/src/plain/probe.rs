@@ -1,20 +1,22 @@
 //! Trials of values on a group's rows: the figures of the levelled shares with one member pinned, in the form in which they are
 //! compared.
 
+use super::apart::Apart;
 use super::rows::Row;
 use danivomel::{Limit, Limits};
 use danivomel_tests::independent::level::clamp;
 
 /// What trials compare with: the group's numbers, the most that may lie above the mean, which is half of a deviation, the
-/// greatest sum of squares, and the sums of n × low − S over the members where that is positive and of S − n × high likewise.
+/// greatest sum of squares, the most pairs, and the sums of n × low − S over the members where that is positive and of S − n × high likewise.
 #[derive(Clone, Copy)]
 pub struct Terms {
     pub n: u64,
     pub total: u64,
     pub lows: u64,
     pub highs: u64,
-    half: u64,
-    squares: u64,
+    pub half: u64,
+    pub squares: u64,
+    pub pairs: u64,
     above: u64,
     below: u64,
 }
@@ -30,6 +32,10 @@ impl Terms {
             Limit::Any => u64::MAX,
             Limit::AtMost(most) => (most + total * total) / n,
         };
+        let pairs = match limits.pairs {
+            Limit::Any => u64::MAX,
+            Limit::AtMost(most) => most,
+        };
         Terms {
             n,
             total,
@@ -37,6 +43,7 @@ impl Terms {
             highs: highs.iter().sum(),
             half,
             squares,
+            pairs,
             above: lows.iter().map(|low| (n * low).saturating_sub(total)).sum(),
             below: highs.iter().map(|high| total.saturating_sub(n * high)).sum(),
         }
@@ -51,18 +58,22 @@ pub struct Trial {
     pub value: u64,
 }
 
-/// What a look finds: half of the deviation, the sum of squares, and the level of the others with the copies left over.
+/// What a look finds: half of the deviation, the sum of squares, the level of the others with the copies left over, and pairs
+/// where they are asked for, else 0, with the row found for the value.
 #[derive(Clone, Copy)]
 pub struct Found {
-    half: u64,
-    squares: u64,
+    pub half: u64,
+    pub squares: u64,
     pub level: u64,
     pub left: u64,
+    pub pairs: u64,
+    pub beside: usize,
 }
 
-/// A group's rows with what its trials compare with.
+/// A group's rows with what its trials compare with; how far apart the shares are where pairs are limited, else nothing.
 pub struct Table<'a> {
     pub rows: &'a [Row],
+    pub apart: &'a [Apart],
     pub terms: Terms,
 }
 
@@ -90,11 +101,12 @@ impl Table<'_> {
     }
 
     /// The pinned group's levelled shares, from the row below their level. The growing members share the copies that the
-    /// row leaves: each gets so many, and some of them one more.
+    /// row leaves: each gets so many, and some of them one more. Pairs take longest, and are asked for where the other two limits
+    /// are met.
     #[inline(always)]
-    pub fn look(&self, trial: Trial, row: usize) -> Found {
+    pub fn look(&self, trial: Trial, index: usize) -> Found {
         let Trial { low, high, value } = trial;
-        let row = &self.rows[row];
+        let row = &self.rows[index];
         let own = clamp(low, high, row.level);
         let copies = self.terms.total + own - value - row.total;
         let (mut each, mut left) = (0, 0);
@@ -102,10 +114,13 @@ impl Table<'_> {
             let growing = row.growing - u64::from(low <= row.level && row.level < high);
             (each, left) = (copies / growing, copies % growing);
         }
-        let squares =
-            row.squares + value * value - own * own + copies * (2 * row.level + each) + left * (each + 1);
+        let squares = row.squares + value * value - own * own + copies * (2 * row.level + each) + left * (each + 1);
         let level = row.level + each;
-        Found { half: self.half(trial, level, left), squares, level, left }
+        let mut found = Found { half: self.half(trial, level, left), squares, level, left, pairs: 0, beside: 0 };
+        if !self.apart.is_empty() && self.allows(found) {
+            (found.pairs, found.beside) = self.pairs(trial, index, level, left);
+        }
+        found
     }
 
     /// Half of the deviation: its part below the mean, where only members at their highs are, or above it, where only those at
@@ -124,24 +139,6 @@ impl Table<'_> {
     /// Whether the limits allow what was found.
     #[inline(always)]
     pub fn allows(&self, found: Found) -> bool {
-        found.squares <= self.terms.squares && found.half <= self.terms.half
+        found.squares <= self.terms.squares && found.half <= self.terms.half && found.pairs <= self.terms.pairs
     }
-
-    /// Newton's step: how many values inward the limits can be met at the soonest. A value nearer takes at most n off the half,
-    /// and twice its distance from the others' level off the squares.
-    #[inline(always)]
-    pub fn step(&self, value: u64, found: Found) -> u64 {
-        let by_half = steps(found.half.saturating_sub(self.terms.half), self.terms.n);
-        let each = 2 * value.abs_diff(found.level).max(1);
-        by_half.max(steps(found.squares.saturating_sub(self.terms.squares), each))
-    }
-}
-
-/// How many steps take so much off, where each takes off at most so much.
-#[inline(always)]
-fn steps(much: u64, each: u64) -> u64 {
-    if much == 0 {
-        return 0;
-    }
-    (much - 1) / each + 1
 }

@@ -11,7 +11,7 @@ use danivomel_tests::cases::groups::GroupCase;
 use danivomel_tests::random::Random;
 
 /// How many groups of a size are tried.
-fn count(n: usize) -> usize {
+pub fn count(n: usize) -> usize {
     (6_400 / n).clamp(20, 200)
 }
 
@@ -61,7 +61,7 @@ pub fn run() -> Table {
 }
 
 /// The group as exact narrowing leaves it, by the planner and by plain Rust alike.
-fn narrowed(case: &GroupCase) -> GroupCase {
+pub fn narrowed(case: &GroupCase) -> GroupCase {
     let (mut after, mut expected) = (case.clone(), case.clone());
     let answer = plain::narrow(&mut expected.lows, &mut expected.highs, &case.marks, case.total, case.limits);
     let found = danivomel::narrow(&mut after.lows, &mut after.highs, &case.marks, case.total, case.limits);
@@ -71,7 +71,7 @@ fn narrowed(case: &GroupCase) -> GroupCase {
 }
 
 /// How many values Gecode leaves, among them all that plans take.
-fn left(case: &GroupCase, taken: &GroupCase, form: Form) -> u64 {
+pub fn left(case: &GroupCase, taken: &GroupCase, form: Form) -> u64 {
     let mut after = case.clone();
     let posted = Posted::of(&[lone(case)]);
     let Outcome::Left(left) = gecode::propagate(&posted, &mut after.lows, &mut after.highs, form).0 else {

@@ -3,6 +3,7 @@
 pub mod filtering;
 pub mod level;
 pub mod narrow;
+pub mod pairs;
 pub mod paper;
 pub mod read;
 pub mod report;
@@ -12,7 +13,7 @@ pub mod unkind;
 pub mod write;
 
 use crate::jobs::job;
-use danivomel::Range;
+use danivomel::{Limit, Range};
 use danivomel_tests::calls;
 use danivomel_tests::cases::groups::GroupCase;
 use danivomel_tests::cases::jobs::print_job;
@@ -41,7 +42,8 @@ impl Settled {
 
 /// A group by itself, as the only one of a job.
 pub fn lone(case: &GroupCase) -> Group {
-    Group { total: case.total, limits: case.limits, members: (0..case.lows.len()).collect() }
+    let says_pairs = case.limits.pairs != Limit::Any;
+    Group { total: case.total, limits: case.limits, says_pairs, members: (0..case.lows.len()).collect() }
 }
 
 /// How many values ranges have.

@@ -95,21 +95,44 @@ fn row(n: usize, tightness: Tightness, first: bool, times: &Times) -> Vec<String
 }
 
 /// Times all contenders on groups of one size.
-pub fn measure(mut groups: Vec<GroupCase>, first: bool, gecode: bool) -> Times {
-    let narrowed = narrowed_by_plain(&groups);
-    if !first {
-        groups = narrowed.clone();
-    }
-    let mut contenders: Vec<Contender> = vec![];
-    for &(name, narrow) in NARROWS {
-        compare(name, narrow, &groups, &narrowed);
-        contenders.push(if first { first_call(name, narrow, &groups) } else { quiet_call(name, narrow, &groups) });
-    }
+pub fn measure(groups: Vec<GroupCase>, first: bool, gecode: bool) -> Times {
+    let asked = Asked::of(groups, first);
+    let mut contenders: Vec<Contender> = NARROWS.iter().map(|who| asked.contender(*who)).collect();
     if gecode {
-        compare_gecode(&groups, &narrowed);
-        contenders.extend(gecode::contenders(groups.iter().map(problem).collect()));
+        contenders.extend(asked.gecode(Form::Centred));
     }
-    in_turn(contenders, groups.len())
+    in_turn(contenders, asked.groups.len())
+}
+
+/// What contenders are asked to narrow, for the first time or once nothing moves, and what should be left.
+pub struct Asked {
+    pub groups: Vec<GroupCase>,
+    narrowed: Vec<GroupCase>,
+    first: bool,
+}
+
+impl Asked {
+    /// Some groups as they are, or as narrowing leaves them.
+    pub fn of(groups: Vec<GroupCase>, first: bool) -> Asked {
+        let narrowed = narrowed_by_plain(&groups);
+        Asked { groups: if first { groups } else { narrowed.clone() }, narrowed, first }
+    }
+
+    /// A contender that narrows all groups, after its answers were compared.
+    pub fn contender(&self, who: (&'static str, Narrow)) -> Contender<'_> {
+        let (name, narrow) = who;
+        compare(name, narrow, &self.groups, &self.narrowed);
+        if self.first {
+            return first_call(name, narrow, &self.groups);
+        }
+        quiet_call(name, narrow, &self.groups)
+    }
+
+    /// Gecode's two contenders in a form, after what they leave was compared.
+    pub fn gecode(&self, form: Form) -> [Contender<'_>; 2] {
+        compare_gecode(&self.groups, &self.narrowed, form);
+        gecode::contenders(self.groups.iter().map(problem).collect(), form)
+    }
 }
 
 /// The groups as the independent planner narrows them.
@@ -159,11 +182,11 @@ fn quiet_call<'a>(name: &'static str, narrow: Narrow, groups: &'a [GroupCase]) -
 }
 
 /// Checks that Gecode keeps every value that some plan takes.
-fn compare_gecode(groups: &[GroupCase], narrowed: &[GroupCase]) {
+fn compare_gecode(groups: &[GroupCase], narrowed: &[GroupCase], form: Form) {
     for (case, taken) in groups.iter().zip(narrowed) {
         let mut left = case.clone();
         let posted = Posted::of(&[lone(case)]);
-        let (outcome, _) = gecode::propagate(&posted, &mut left.lows, &mut left.highs, Form::Centred);
+        let (outcome, _) = gecode::propagate(&posted, &mut left.lows, &mut left.highs, form);
         same(GECODE, "posting and propagating", matches!(outcome, Outcome::Left(_)), true);
         covers(GECODE, "narrowing", (&left.lows, &left.highs), (&taken.lows, &taken.highs));
     }

@@ -94,7 +94,7 @@ fn known() {
     same("001's rule", "example 4", filter_once(&mut lows, &mut highs, 20, 28), true);
     same("001's rule", "example 4", (lows, highs), ([8, 4, 3, 3], [8, 5, 5, 4]));
     let (mut lows, mut highs) = ([0; 10], [1; 10]);
-    let limits = Limits { deviation: Limit::AtMost(30), spread: Limit::Any };
+    let limits = Limits { deviation: Limit::AtMost(30), ..Limits::ANY };
     same("001's rule", "example 5", filter_on(&mut lows, &mut highs, 5, 30), true);
     same("exact", "example 5", danivomel::narrow(&mut lows, &mut highs, &[0; 10], 5, limits).is_err(), true);
 }

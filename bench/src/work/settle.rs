@@ -49,7 +49,8 @@ pub fn run() -> (Table, Vec<(String, Times)>) {
         let mut contenders: Vec<Contender> = SETTLES.iter().map(|who| contender(*who, &case)).collect();
         let left = compare_gecode(&case);
         let posted = Posted::of(&case.job.groups);
-        contenders.extend(gecode::contenders(vec![Problem { lows: &case.job.lows, highs: &case.job.highs, posted }]));
+        let problem = Problem { lows: &case.job.lows, highs: &case.job.highs, posted };
+        contenders.extend(gecode::contenders(vec![problem], Form::Centred));
         let times = in_turn(contenders, 1);
         let (turns, visits) = case.turns();
         let a_visit = |time: Option<f64>| digits(time.map(|time| 1_000.0 * time / visits as f64));
