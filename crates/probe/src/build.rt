@@ -159,7 +159,13 @@ fn build_several(
 }
 
 // The table of all members, with the numbers that pairs take.
-fn build_paired(lows: &[u64], highs: &[u64], starts: &mut [u64], stops: &mut [u64], table: &mut [u64])
+fn build_paired(
+    lows: &[u64],
+    highs: &[u64],
+    starts: &mut [u64],
+    stops: &mut [u64],
+    table: &mut [u64],
+)
     requires { ⌜ SoundRanges (now lows) (now highs) ⌝ }
     requires { ⌜ length (now starts) ≡ length (now lows) ⌝ }
     requires { ⌜ length (now stops) ≡ length (now lows) ⌝ }

@@ -58,7 +58,14 @@ pub fn row_of(table: &[u64], last: usize, value: u64) -> usize
 }
 
 // The distances at a level, from the row below it.
-pub fn distances_on(lows: &[u64], highs: &[u64], table: &[u64], terms: Terms, k: usize, level: u64) -> Distances
+pub fn distances_on(
+    lows: &[u64],
+    highs: &[u64],
+    table: &[u64],
+    terms: Terms,
+    k: usize,
+    level: u64,
+) -> Distances
     requires { ⌜ PairLookable (now lows) (now highs) (now table) terms ⌝ }
     requires { ⌜ MarkedBelow (now table) (terms .last) level k ⌝ }
     requires { ⌜ level ≤ greatestShare ⌝ }
@@ -70,7 +77,14 @@ pub fn distances_on(lows: &[u64], highs: &[u64], table: &[u64], terms: Terms, k:
 }
 
 // How far a value is in all from the shares at a level: as far as from those at its own, and what T moves from there.
-pub fn far_from(lows: &[u64], highs: &[u64], table: &[u64], terms: Terms, here: Distances, value: u64) -> u64
+pub fn far_from(
+    lows: &[u64],
+    highs: &[u64],
+    table: &[u64],
+    terms: Terms,
+    here: Distances,
+    value: u64,
+) -> u64
     requires { ⌜ PairLookable (now lows) (now highs) (now table) terms ⌝ }
     requires { ⌜ DistancesAt (now lows) (now highs) (here .level) here ⌝ }
     requires { ⌜ (here .level ≤ greatestShare) × (value ≤ greatestShare) ⌝ }

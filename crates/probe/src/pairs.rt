@@ -37,7 +37,14 @@ fn one_if_above(level: u64, share: u64) -> u64
 }
 
 // The pair differences at a level with a value in place of a member's own share: the one's distances come, the other's go.
-fn with_value(lows: &[u64], highs: &[u64], table: &[u64], terms: Terms, here: Distances, trial: Trial) -> u64
+fn with_value(
+    lows: &[u64],
+    highs: &[u64],
+    table: &[u64],
+    terms: Terms,
+    here: Distances,
+    trial: Trial,
+) -> u64
     requires { ⌜ PairLookable (now lows) (now highs) (now table) terms ⌝ }
     requires { ⌜ DistancesAt (now lows) (now highs) (here .level) here ⌝ }
     requires { ⌜ here .level ≤ greatestShare ⌝ }
@@ -63,7 +70,14 @@ fn with_over(count: u64, lows: u64, trial: Trial, spot: Spot, pairs: u64) -> u64
 }
 
 // The pair differences of the group with the value in place of the member's own share, at the level reached.
-pub fn pinned_pairs(lows: &[u64], highs: &[u64], table: &[u64], terms: Terms, trial: Trial, spot: Spot) -> u64
+pub fn pinned_pairs(
+    lows: &[u64],
+    highs: &[u64],
+    table: &[u64],
+    terms: Terms,
+    trial: Trial,
+    spot: Spot,
+) -> u64
     requires { ⌜ PairLookable (now lows) (now highs) (now table) terms ⌝ }
     requires { ⌜ Spotted (now lows) (now highs) (now table) terms (trial .low) (trial .high) (trial .value) spot ⌝ }
     ensures { λ r. ⌜ PinnedPairs (now (lows .entry)) (now (highs .entry)) (trial .low) (trial .high) (trial .value) (spot .level) (spot .over) r ⌝ }
@@ -99,7 +113,11 @@ pub fn pair_step(table: &[u64], last: usize, trial: Trial, spot: Spot, much: u64
     let beside = row_of(table, last, trial.value);
     let there = read_row(table, beside);
     let moving = past(row.lows, row.highs);
-    let growing = clamp(1, 256, past(moving, growth(trial.low, trial.high, row.mark)));
+    let growing = clamp(
+        1,
+        256,
+        past(moving, growth(trial.low, trial.high, row.mark)),
+    );
     let over = clamp(0, growing, spot.over);
     let most = clamp(0, MOST_PAIRS, much);
     if spot.level < trial.value {
@@ -108,6 +126,10 @@ pub fn pair_step(table: &[u64], last: usize, trial: Trial, spot: Spot, much: u64
         return turns(2 * between + 1, growing, over, most);
     }
     let passed = past(row.highs, there.highs);
-    let between = clamp(0, 256, past(passed, one_if_between(trial.value, trial.high, spot.level)));
+    let between = clamp(
+        0,
+        256,
+        past(passed, one_if_between(trial.value, trial.high, spot.level)),
+    );
     turns(2 * between + 1, growing, (growing - over) % growing, most)
 }

@@ -75,8 +75,23 @@ pub struct Tried {
     pub row: usize,
 }
 
+// How far inward of a value beyond the limits of deviation and spread to look next.
+fn step_inward(terms: Terms, trial: Trial, pinned: Pinned) -> u64 {
+    let squares = past(pinned.squares, terms.squares);
+    let half = past(pinned.half, terms.half);
+    let distance = apart(trial.value, pinned.level);
+    newton_step(squares, half, distance, terms.count)
+}
+
 // Tries a value that the other limits allow, under a pairs limit.
-fn try_pairs(lows: &[u64], highs: &[u64], table: &[u64], terms: Terms, trial: Trial, spot: Spot) -> Tried
+fn try_pairs(
+    lows: &[u64],
+    highs: &[u64],
+    table: &[u64],
+    terms: Terms,
+    trial: Trial,
+    spot: Spot,
+) -> Tried
     requires { ⌜ PairLookable (now lows) (now highs) (now table) terms ⌝ }
     requires { ⌜ Spotted (now lows) (now highs) (now table) terms (trial .low) (trial .high) (trial .value) spot ⌝ }
     ensures { λ r. ⌜ PairsTold (now (lows .entry)) (now (highs .entry)) terms (trial .low) (trial .high) (trial .value) (spot .level) (spot .over) (r .taken) ⌝ }
@@ -116,10 +131,7 @@ pub fn try_value(
     let row = last_within(table, terms.last, trial, terms.total);
     let pinned = look(lows, highs, table, terms, trial, row);
     if !within(terms, pinned) {
-        let squares = past(pinned.squares, terms.squares);
-        let half = past(pinned.half, terms.half);
-        let distance = apart(trial.value, pinned.level);
-        let inward = newton_step(squares, half, distance, terms.count);
+        let inward = step_inward(terms, trial, pinned);
         return Tried {
             taken: false,
             inward,
@@ -150,7 +162,14 @@ pub struct Levelled {
 }
 
 // Whether the limits allow what was found, pairs last.
-fn meets_all(lows: &[u64], highs: &[u64], table: &[u64], terms: Terms, pinned: Pinned, row: usize) -> bool
+fn meets_all(
+    lows: &[u64],
+    highs: &[u64],
+    table: &[u64],
+    terms: Terms,
+    pinned: Pinned,
+    row: usize,
+) -> bool
     requires { ⌜ Lookable (now lows) (now highs) (now table) terms 0 0 0 ⌝ }
     requires { ⌜ PinnedFigures (now lows) (now highs) terms 0 0 0 pinned ⌝ }
     requires { ⌜ SpotBelow (now table) (terms .last) row (pinned .level) (pinned .over) ⌝ }

@@ -129,7 +129,7 @@ module _ {xs : List ℕ} {i later total told : ℕ} (risen : Rising (length xs) 
   -- and is passed
   pub pairs-step : (more : ℕ) → more + later * getD xs i 0 ≡ total → PairsFrom xs i (later + 1) (total + getD xs i 0) (told + more)
   unfolding pairs sum sumOf
-  pairs-step more is = 
+  pairs-step more is =
       let here = drop-cons xs i 0 (omega (arith, held .place)) in
       record {
         place = omega (arith, held .place);

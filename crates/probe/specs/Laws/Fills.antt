@@ -85,18 +85,20 @@ module _ {lows highs starts stops : List ℕ} where
       let few-lows = filled .walk .partedLows .few in
       let few-highs = filled .walk .partedHighs .few in
       let all-lows : row .lows ≡ length starts = omega (arith, filled .counted, bounds .1) in
-      let all-highs : row .highs ≡ length stops = omega (arith, filled .counted, bounds .1) in
-      (record {
-        room = omega (arith, filled .room, filled .few);
-        few = omega (arith, filled .few, bounds .0);
-        first = filled .first;
-        sums = λ j h. filled .sums j (omega arith);
-        spans = λ j h. filled .spans j (omega arith);
-        last = rw (full, filled .here) (kept-span (sound .ranges) (risen .kept) (span (kept-ranges (sound .ranges) (risen .kept)) (risen .startsFrom .rearranged) (risen .stopsFrom .rearranged)
-            (omega (arith, filled .walk .sums .share))
-            (parted-all (filled .walk .partedLows) all-lows) (parted-all (filled .walk .partedHighs) all-highs)));
-        all = rw (full, filled .here) (omega (arith, bounds .1));
-      }, record {
-        up = λ j h. filled .passed j (omega arith);
-        last = rw (full, filled .here) (parted-all (filled .walk .partedLows) all-lows);
-      })
+      let all-highs : row .highs ≡ length stops = omega (arith, filled .counted, bounds .1) in (
+        record {
+          room = omega (arith, filled .room, filled .few);
+          few = omega (arith, filled .few, bounds .0);
+          first = filled .first;
+          sums = λ j h. filled .sums j (omega arith);
+          spans = λ j h. filled .spans j (omega arith);
+          last = rw (full, filled .here) (kept-span (sound .ranges) (risen .kept) (span (kept-ranges (sound .ranges) (risen .kept)) (risen .startsFrom .rearranged) (risen .stopsFrom .rearranged)
+              (omega (arith, filled .walk .sums .share))
+              (parted-all (filled .walk .partedLows) all-lows) (parted-all (filled .walk .partedHighs) all-highs)));
+          all = rw (full, filled .here) (omega (arith, bounds .1));
+        },
+        record {
+          up = λ j h. filled .passed j (omega arith);
+          last = rw (full, filled .here) (parted-all (filled .walk .partedLows) all-lows);
+        },
+      )

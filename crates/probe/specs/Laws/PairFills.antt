@@ -104,7 +104,7 @@ module _ {lows highs starts start : List ℕ} (sound : SoundRanges lows highs) (
           passed = λ j h. let follows : j < lastRow start = omega (arith, full) in
               rw (rows j, rows (suc j)) (lows-passed (sorted .rearranged) (sorted .same) (held .spans j follows .rises) (passed .up j follows));
           last = rw (full, rows (lastRow start)) (lows-passed (sorted .rearranged) (sorted .same) (held .last .rises) (passed .last));
-        }
+        },
       )
 
 -- so far of some table

@@ -32,12 +32,17 @@ narrow-on-requires : tie.Need-narrow-on-requires
 narrow-on-requires c κs =
     let built = c .before .before .before .before .before .before .before .before .before .before .before in
     let start = built .before .before .before .before .before .before .before .before .before .before .before .before .before in
-    let room = start .pre .1 in
-    (start .pre .0, (record {
-      sound = probe-sound (start .pre .0);
-      held = built .build .ensures .1 .0;
-      paired = λ limited. built .build .ensures .1 .1 (asked-for _ _ (built .before .before .before .before .before .before .limits-pairs .ensures) limited);
-    }, (omega (arith, room .sizeStarts), omega (arith, room .sizeStops))))
+    let room = start .pre .1 in (
+      start .pre .0,
+      (
+        record {
+          sound = probe-sound (start .pre .0);
+          held = built .build .ensures .1 .0;
+          paired = λ limited. built .build .ensures .1 .1 (asked-for _ _ (built .before .before .before .before .before .before .limits-pairs .ensures) limited);
+        },
+        (omega (arith, room .sizeStarts), omega (arith, room .sizeStops)),
+      ),
+    )
 
 same-length : tie.Need-same-length
 same-length c = search needs

@@ -1,7 +1,6 @@
 -- One row more has its numbers in each turn. Assumes nothing.
 use Rattle.probe.proofs.build.fill_pairs.Statement.{statement}
 use Rattle.probe.proofs.build.fill_pairs.Tie as tie
-
 use borrow.Author.Needs.{needs}
 use native.Mathlib.Omega.{arith}
 use mathlib.Core.Path.{_≡_, refl, ap, _∙_}
@@ -34,7 +33,7 @@ write-pair-row-requires : tie.Need-write-pair-row-requires Inv-loop μ-loop
 write-pair-row-requires c κs = omega (arith, c .before .before .before .before .before .before .before .before .before .before .pre .1 .1 .0 .room)
 
 loop-holds : tie.Need-loop-holds Inv-loop μ-loop
-loop-holds c = 
+loop-holds c =
     let w = c .before .before in
     let s = c .before .before .before .before .before .before .before .before .before .before .before .before .before in (
       record {
@@ -66,7 +65,7 @@ module _ (c : tie.After-read-row2 Inv-loop μ-loop) where
   next-is = c .read-row2 .ensures ∙ at .loop .inv .0 .filled .rows _ ∙ ap (rowAt (at .loop .inv .0 .start)) (add-one _)
 
 distances-at-requires : tie.Need-distances-at-requires Inv-loop μ-loop
-distances-at-requires c κs = 
+distances-at-requires c κs =
     let t = at c in
     next-movable (start t .pre .0) (start t .pre .1 .0) (t .loop .inv .0 .held) (t .loop .inv .0 .passed) (t .loop .inv .0 .filled) (more c) (next-is c)
 
@@ -97,7 +96,7 @@ same-length : tie.Need-same-length Inv-loop μ-loop
 same-length c = c .before .loop .inv .1 ∙ c .before .before .before .before .write-pair-row .ensures .same
 
 returns : tie.Need-returns Inv-loop μ-loop
-returns c = 
+returns c =
     let t = c .before in
     let inv = t .loop .inv .0 in
     pairs-all (start t .pre .0) (start t .pre .1 .0) (inv .held) (inv .passed) (inv .filled) (omega (arith, inv .ended, c .loop-test .left))

@@ -109,19 +109,21 @@ returns : tie.Need-returns
 returns c =
     let q = c .before in
     let r = q .before .before in
-    let f = from r in
-    (record {
-      is = λ pin. record {
-        mark = _;
-        moving = _;
-        reached = there r pin;
-        halves = halved (asked f .sound) (asked f .summed) (trial f) pin (reach r) (there r pin) (c .pinned-half .ensures);
-        small = c .pinned-half .ensures .small;
-        squares = moved-squares pin (sums f .squares) (divided r) (there r pin)
-            (rw (q .before .clamp .ensures, r .before .before .before .read-row .ensures) at (q .pinned-squares .ensures));
-      };
-    }, spot-told (asked f) (reached-below (asked f .sound) (asked f .held) (asked f .asked .pin) (found f) (reach-last (asked f) .greatest) (reach r) (divided r)
-    (omega (arith, sums f .fewLows, asked f .sound .few))))
+    let f = from r in (
+      record {
+        is = λ pin. record {
+          mark = _;
+          moving = _;
+          reached = there r pin;
+          halves = halved (asked f .sound) (asked f .summed) (trial f) pin (reach r) (there r pin) (c .pinned-half .ensures);
+          small = c .pinned-half .ensures .small;
+          squares = moved-squares pin (sums f .squares) (divided r) (there r pin)
+              (rw (q .before .clamp .ensures, r .before .before .before .read-row .ensures) at (q .pinned-squares .ensures));
+        };
+      },
+      spot-told (asked f) (reached-below (asked f .sound) (asked f .held) (asked f .asked .pin) (found f) (reach-last (asked f) .greatest) (reach r) (divided r)
+          (omega (arith, sums f .fewLows, asked f .sound .few))),
+    )
 
 pub look-spec : {M : Type 1} → statement M
 look-spec =

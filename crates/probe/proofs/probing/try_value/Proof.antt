@@ -41,21 +41,12 @@ module _ (c : tie.After-within) where
   is-found : LastWithin (start .args .table .now) (start .args .terms .last) (start .args .trial .low) (start .args .trial .high) (start .args .trial .value) (start .args .question .total) (c .before .before .last-within .result)
   is-found = rw (start .pre .termed .totals) at (c .before .before .last-within .ensures)
 
-past-requires : tie.Need-past-requires
-past-requires c κs = search needs
-
-past-requires-2 : tie.Need-past-requires-2
-past-requires-2 c κs = search needs
-
-apart-requires : tie.Need-apart-requires
-apart-requires c κs = search needs
-
-newton-step-requires : tie.Need-newton-step-requires
-newton-step-requires c κs = search needs
+step-inward-requires : tie.Need-step-inward-requires
+step-inward-requires c κs = search needs
 
 returns : tie.Need-returns
 returns c =
-    let t = c .before .before .before .before in
+    let t = c .before in
     let w = t .before in
     let allowed = start w .pre .termed .allowed in
     (is-decided w (λ lows′ highs′ pin. refused-so _ (w .within .ensures) (not-true _ (t .if1 .taken)) (decides (asked w) allowed pin (w .before .look .ensures .0 .is pin) refl)), is-found w)
@@ -65,9 +56,11 @@ returns-2 c =
     let e = c .before .before in
     let w = e .before in
     let allowed = start w .pre .termed .allowed in
-    let found = w .before .look .ensures .0 in
-    (is-decided w (λ lows′ highs′ pin. met-so _ (w .within .ensures) (not-false _ (e .if1 .left))
-    (decides (asked w) allowed pin (found .is pin) (pairs-unasked (asked w) allowed pin (found .is pin .reached) (c .if2 .taken)))), is-found w)
+    let found = w .before .look .ensures .0 in (
+      is-decided w (λ lows′ highs′ pin. met-so _ (w .within .ensures) (not-false _ (e .if1 .left))
+          (decides (asked w) allowed pin (found .is pin) (pairs-unasked (asked w) allowed pin (found .is pin .reached) (c .if2 .taken)))),
+      is-found w,
+    )
 
 try-pairs-requires : tie.Need-try-pairs-requires
 try-pairs-requires c κs =
@@ -79,10 +72,11 @@ returns-3 c =
     let e = c .before .before .before in
     let w = e .before in
     let allowed = start w .pre .termed .allowed in
-    let found = w .before .look .ensures .0 in
-    (is-decided w (λ lows′ highs′ pin. met-so _ (w .within .ensures) (not-false _ (e .if1 .left))
-    (decides (asked w) allowed pin (found .is pin) (pairs-asked (asked w) allowed pin (found .is pin .reached) (c .try-pairs .ensures .0 .is pin)))),
-    found-as (c .try-pairs .ensures .1) (is-found w))
+    let found = w .before .look .ensures .0 in (
+      is-decided w (λ lows′ highs′ pin. met-so _ (w .within .ensures) (not-false _ (e .if1 .left))
+          (decides (asked w) allowed pin (found .is pin) (pairs-asked (asked w) allowed pin (found .is pin .reached) (c .try-pairs .ensures .0 .is pin)))),
+      found-as (c .try-pairs .ensures .1) (is-found w),
+    )
 
 pub try-value-spec : {M : Type 1} → statement M
 try-value-spec =
@@ -91,10 +85,7 @@ try-value-spec =
     last-within-requires
     look-requires
     within-requires
-    past-requires
-    past-requires-2
-    apart-requires
-    newton-step-requires
+    step-inward-requires
     returns
     returns-2
     try-pairs-requires
