@@ -8,6 +8,7 @@ use model::lists::copy;
 use model::shares::has_shares;
 use probe::build::build;
 use probe::probing::level_on;
+use probe::terms::limits_pairs;
 use probe::terms::terms_of;
 ghost use mathlib.Core.Path.{_≡_};
 ghost use Prim.Native.Nat.{_≤_};
@@ -28,7 +29,7 @@ fn narrow_on(
     stops: &mut [u64],
 ) -> bool
     requires { ⌜ HasShares (now lows) (now highs) (question .total) ⌝ }
-    requires { ⌜ Tabled (now lows) (now highs) (question .total) (now table) ⌝ }
+    requires { ⌜ Tabled (now lows) (now highs) (question .total) (question .limits) (now table) ⌝ }
     requires { ⌜ length (now starts) ≡ length (now lows) ⌝ }
     requires { ⌜ length (now stops) ≡ length (now lows) ⌝ }
     ensures { λ r. ⌜ r ≡ hasPlan (now (lows .entry)) (now (highs .entry)) (question .total) (question .limits) ⌝ }
@@ -69,7 +70,10 @@ fn narrow_with(
     requires { ⌜ TableLists (length (now lows)) (now starts) (now stops) (now table) ⌝ }
     ensures { λ r. ⌜ NarrowedIf (now (lows .entry)) (now (highs .entry)) (question .total) (question .limits) r (now (lows .exit)) (now (highs .exit)) ⌝ }
 {
-    let size = build(lows, highs, starts, stops, table);
+    let limits = question.limits;
+    let pairs = limits.pairs;
+    let paired = limits_pairs(pairs);
+    let size = build(lows, highs, starts, stops, table, paired);
     let planned = narrow_on(lows, highs, &table[..size], question, starts, stops);
     if !planned {
         return false;

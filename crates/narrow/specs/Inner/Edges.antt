@@ -36,7 +36,7 @@ pub data Reaches (test : ℕ → Bool) (end inside : ℕ) : ℕ → Type 0 where
 
 -- a way from a share that some plan gives member i to an end
 pub record Approach (lows highs table : List ℕ) (total : ℕ) (limits : Limits) (i end share : ℕ) : Type 0 where
-  pub tabled : Tabled lows highs total table
+  pub tabled : Tabled lows highs total limits table
   pub here : i < length lows
   pub small : end ≤ greatestShare
   pub share-small : share ≤ greatestShare

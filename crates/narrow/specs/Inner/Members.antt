@@ -18,7 +18,7 @@ narrowedEnds up lows highs total limits = pick up (narrowedHighs lows highs tota
 -- a group that has a plan, with its table, its terms and the level that its total reaches
 pub record Narrowable (lows highs table : List ℕ) (question : Question) (asked : Asked) : Type 0 where
   pub has : HasPlan lows highs (question .total) (question .limits)
-  pub tabled : Tabled lows highs (question .total) table
+  pub tabled : Tabled lows highs (question .total) (question .limits) table
   pub termed : Termed lows highs table (question .total) (question .limits) (asked .terms)
   pub mark : ℕ
   pub moving : ℕ

@@ -1,19 +1,22 @@
 -- A group with its breakpoint table, and room to work in. Assumes nothing.
 use Prim.Native.Nat.{ℕ, _+_, _*_, _≤_}
-use mathlib.Core.Bool.{true}
+use mathlib.Core.Bool.{true, false}
 use mathlib.Core.List.{List}
 use mathlib.Core.Path.{_≡_}
 use lib.ListN.{length}
+use Rattle.model.specs.Figures.{allows}
 use Rattle.model.specs.Plans.{hasPlan}
 use Rattle.model.specs.declared.Limits.{Limits}
+use Rattle.probe.specs.Inner.Distances.{mostPairs, Paired}
 use Rattle.probe.specs.Inner.Tables as probed
 use Rattle.model.specs.Sound.{SoundRanges}
 use Rattle.model.specs.Shares.{mostUnits}
 
 -- a group with the table that its values are looked up in
-pub record Tabled (lows highs : List ℕ) (total : ℕ) (table : List ℕ) : Type 0 where
+pub record Tabled (lows highs : List ℕ) (total : ℕ) (limits : Limits) (table : List ℕ) : Type 0 where
   pub sound : probed.SoundWithTotal lows highs total
   pub held : probed.Breakpoints lows highs table
+  pub paired : allows (limits .pairs) mostPairs ≡ false → Paired lows highs table
 
 -- room to work in for a group of n members
 pub record TableLists (n : ℕ) (starts stops table : List ℕ) : Type 0 where

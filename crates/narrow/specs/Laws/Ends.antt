@@ -49,7 +49,7 @@ module _ {lows highs : List ℕ} {total : ℕ} {limits : Limits} {i share : ℕ}
   range = ranges-at (planned .has .sound .ranges) i (planned .here)
 
   -- the ways from the share to the low and to the high
-  module _ {table : List ℕ} (tabled : Tabled lows highs total table) where
+  module _ {table : List ℕ} (tabled : Tabled lows highs total limits table) where
     to-end : (end : ℕ) → end ≤ greatestShare → Approach lows highs table total limits i end share
     to-end end small = record {
       tabled = tabled;

@@ -88,7 +88,7 @@ pub rows-rise : {lows highs table : List ℕ} → Breakpoints lows highs table �
     → rowAt table a .mark ≤ rowAt table b .mark
 rows-rise held a b less upTo = let (steps, is) = le-dest less in marks-rise held steps a b is upTo
 
-module _ {lows highs table : List ℕ} {total : ℕ} {limits : Limits} (tabled : Tabled lows highs total table) {i : ℕ} (here : i < length lows)
+module _ {lows highs table : List ℕ} {total : ℕ} {limits : Limits} (tabled : Tabled lows highs total limits table) {i : ℕ} (here : i < length lows)
     {was : Shared} {found : Bracket} (known : SharedHolds lows highs total limits was)
     (outcomes : Outcomes (taken lows highs total limits i) (found .inner) (found .outer)) (small : found .outer ≤ greatestShare)
     (innerRow : RowOf lows highs table total i (found .inner) (found .near))
@@ -148,7 +148,7 @@ found-known over row known noted =
 
 -- and so does a value that is taken
 pub trial-known : {lows highs table : List ℕ} {total : ℕ} {limits : Limits} {i v k : ℕ} {was r : Shared}
-    → Tabled lows highs total table → i < length lows → SharedHolds lows highs total limits was
+    → Tabled lows highs total limits table → i < length lows → SharedHolds lows highs total limits was
     → v ≤ greatestShare → taken lows highs total limits i v ≡ true → RowOf lows highs table total i v k
     → Noted table (lastRow table) (getD lows i 0) (getD highs i 0) was (record { inner = v; outer = v; near = k; far = k; tried = true }) r
     → SharedHolds lows highs total limits r

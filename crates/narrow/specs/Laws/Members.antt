@@ -26,7 +26,7 @@ module _ (lows highs : List ℕ) (total : ℕ) (limits : Limits) where
 
 module _ {lows highs : List ℕ} {total : ℕ} {limits : Limits} {i share : ℕ} (planned : Planned lows highs total limits i share) where
   -- the way from the share to the end
-  pub to-end : (up : Bool) {table : List ℕ} → Tabled lows highs total table
+  pub to-end : (up : Bool) {table : List ℕ} → Tabled lows highs total limits table
       → Approach lows highs table total limits i (pick up (getD highs i 0) (getD lows i 0)) share
   to-end true tabled = to-high planned tabled
   to-end false tabled = to-low planned tabled

@@ -16,6 +16,7 @@ use Rattle.probe.specs.declared.terms.Terms.{Terms}
 use Rattle.probe.specs.Inner.Terms.{Termed}
 use Rattle.probe.specs.Inner.Verdicts.{Triable, Decides}
 use Rattle.probe.specs.Laws.Probes.{probeable}
+use Rattle.probe.specs.Laws.Terms.{pairs-limited}
 use Rattle.probe.specs.Laws.Reaching.{short-fails, long-fails, taken-reach}
 use Rattle.narrow.specs.Inner.Edges.{Approach}
 use Rattle.narrow.specs.Laws.Edges.{Nearest}
@@ -52,6 +53,7 @@ module _ {lows highs table : List ℕ} {total : ℕ} {limits : Limits} {i end sh
       termed = termed;
       asked = record { pinnedLows = set lows i w; pinnedHighs = set highs i w; pin = pinned (way .tabled .sound .ranges) i w (way .here) small };
       reach = rw (termed .group .ended) reach;
+      paired = λ less. way .tabled .paired (pairs-limited (termed .allowed .pairs) less);
     }
 
     -- and what a trial tells is whether it is taken

@@ -7,7 +7,7 @@ use mathlib.Core.Path.{_≡_, refl, sym, _∙_}
 use Rattle.model.specs.Plans.{hasPlan}
 use Rattle.probe.specs.Inner.Terms.{Termed}
 use Rattle.probe.specs.Laws.Reaching.{shares-lookable}
-use Rattle.probe.specs.Laws.Terms.{level-reached, level-planned}
+use Rattle.probe.specs.Laws.Terms.{level-reached, level-planned, pairs-limited}
 use Rattle.narrow.specs.Inner.Members.{Narrowable}
 use Rattle.narrow.specs.Inner.Tabled.{HasPlan}
 use Rattle.narrow.proofs.ranges.narrow_on.Statement.{statement}
@@ -21,7 +21,7 @@ terms-of-requires c κs =
 level-on-requires : tie.Need-level-on-requires
 level-on-requires c κs =
     let s = c .before .before .before .before .before .before in
-    shares-lookable (s .pre .1 .0 .sound) (s .pre .1 .0 .held) (s .pre .0 .low) (s .pre .0 .high) (c .terms-of .ensures)
+    shares-lookable (s .pre .1 .0 .sound) (s .pre .1 .0 .held) (s .pre .0 .low) (s .pre .0 .high) (c .terms-of .ensures) (λ less. s .pre .1 .0 .paired (pairs-limited (c .terms-of .ensures .allowed .pairs) less))
 
 -- the start, and what is told there, seen from the level
 module _ (c : tie.After-level-on) where

@@ -8,14 +8,17 @@ use lib.ListN.{length}
 use lib.Seq.{length-take-le}
 use Rattle.model.specs.Plans.{narrowedLows, narrowedHighs}
 use Rattle.model.specs.Laws.Narrowing.{narrowedLows-length, narrowedHighs-length}
-use Rattle.narrow.specs.Laws.Tabled.{probe-sound}
+use Rattle.narrow.specs.Laws.Tabled.{probe-sound, asked-for}
 use Rattle.narrow.specs.Laws.Turns.{if-planned}
 use Rattle.narrow.proofs.ranges.narrow_with.Statement.{statement}
 use Rattle.narrow.proofs.ranges.narrow_with.Tie as tie
 
+limits-pairs-requires : tie.Need-limits-pairs-requires
+limits-pairs-requires c κs = search needs
+
 build-requires : tie.Need-build-requires
 build-requires c κs =
-    let start = c .before .before .before .before .before .before .before .before .before .before in
+    let start = c .before .before .before .before .before .before .before .before .before .before .before .before in
     let room = start .pre .1 in
     (start .pre .0 .sound, (room .sizeStarts, (room .sizeStops, room .sizeTable)))
 
@@ -28,9 +31,13 @@ slice-aggregate-narrow-on c = sym (length-take-le _ _ (c .before .before .before
 narrow-on-requires : tie.Need-narrow-on-requires
 narrow-on-requires c κs =
     let built = c .before .before .before .before .before .before .before .before .before .before .before in
-    let start = built .before .before .before .before .before .before .before .before .before .before .before in
+    let start = built .before .before .before .before .before .before .before .before .before .before .before .before .before in
     let room = start .pre .1 in
-    (start .pre .0, (record { sound = probe-sound (start .pre .0); held = built .build .ensures .1 }, (omega (arith, room .sizeStarts), omega (arith, room .sizeStops))))
+    (start .pre .0, (record {
+      sound = probe-sound (start .pre .0);
+      held = built .build .ensures .1 .0;
+      paired = λ limited. built .build .ensures .1 .1 (asked-for _ _ (built .before .before .before .before .before .before .limits-pairs .ensures) limited);
+    }, (omega (arith, room .sizeStarts), omega (arith, room .sizeStops))))
 
 same-length : tie.Need-same-length
 same-length c = search needs
@@ -58,7 +65,7 @@ module _ (c : tie.Else1) where
   on = c .before .before .before .before .before
 
   abbrev begun : tie.Start
-  begun = on .before .before .before .before .before .before .before .before .before .before .before .before .before .before .before .before .before .before .before .before .before .before .before
+  begun = on .before .before .before .before .before .before .before .before .before .before .before .before .before .before .before .before .before .before .before .before .before .before .before .before .before
 
   found : on .narrow-on .result ≡ true
   found = not-false (on .narrow-on .result) (c .if1 .left)
@@ -109,6 +116,7 @@ pub narrow-with-spec : {M : Type 1} → statement M
 narrow-with-spec =
     tie.close
     (tie.spec
+    limits-pairs-requires
     build-requires
     slice-reshare-prefix-narrow-on
     slice-aggregate-narrow-on
