@@ -34,12 +34,14 @@ foreignLevelled (Levelled level figures) = record {
   level = level .copies;
   deviation = record { value = figures .deviation .0 };
   spread = record { value = figures .spread .0 };
+  pairs = record { value = figures .pairs .0 };
 }
 foreignLevelled (Refused refusal) = record {
   refusal = foreignRefusal refusal;
   level = 0;
   deviation = record { value = 0 };
   spread = record { value = 0 };
+  pairs = record { value = 0 };
 }
 
 -- a limit as it comes across
@@ -47,7 +49,11 @@ abbrev pub foreignLimit : ForeignLimit → Limit
 foreignLimit limit = pick (limit .any) Any (AtMost (limit .«at_most»))
 
 abbrev pub foreignLimits : ForeignLimits → Limits
-foreignLimits limits = record { deviation = foreignLimit (limits .deviation); spread = foreignLimit (limits .spread) }
+foreignLimits limits = record {
+  deviation = foreignLimit (limits .deviation);
+  spread = foreignLimit (limits .spread);
+  pairs = foreignLimit (limits .pairs);
+}
 
 -- a narrowing
 abbrev pub foreignNarrowed : Narrowing → ForeignRefusal

@@ -25,7 +25,11 @@ refusalOf foreign = refusal (foreign .number) (foreign .place)
 
 -- the figures as they came across
 abbrev pub figuresIn : ForeignLevelled → Figures
-figuresIn answer = record { deviation = record { 0 = answer .deviation .value }; spread = record { 0 = answer .spread .value } }
+figuresIn answer = record {
+  deviation = record { 0 = answer .deviation .value };
+  spread = record { 0 = answer .spread .value };
+  pairs = record { 0 = answer .pairs .value };
+}
 
 -- what `danivomel_level` promises of its answer and of the plan list
 pub record ForeignLevelPromise (lows highs marks : List ℕ) (total : ℕ) (plan : List ℕ) (answer : ForeignLevelled) (after : List ℕ) : Type 0 where

@@ -33,6 +33,12 @@ pub struct ForeignSpread {
     pub value: u64,
 }
 
+// The pair differences.
+#[repr(C)]
+pub struct ForeignPairs {
+    pub value: u64,
+}
+
 // A limit; any limits nothing, and the number is then not looked at.
 #[repr(C)]
 pub struct ForeignLimit {
@@ -45,6 +51,7 @@ pub struct ForeignLimit {
 pub struct ForeignLimits {
     pub deviation: ForeignLimit,
     pub spread: ForeignLimit,
+    pub pairs: ForeignLimit,
 }
 
 // What levelling answers.
@@ -54,6 +61,7 @@ pub struct ForeignLevelled {
     pub level: u64,
     pub deviation: ForeignDeviation,
     pub spread: ForeignSpread,
+    pub pairs: ForeignPairs,
 }
 
 // What reading a job text answers.
@@ -113,12 +121,16 @@ fn levelling_out(answer: Levelling) -> ForeignLevelled
             spread: ForeignSpread {
                 value: figures.spread.0,
             },
+            pairs: ForeignPairs {
+                value: figures.pairs.0,
+            },
         },
         Levelling::Refused(refusal) => ForeignLevelled {
             refusal: refusal_out(refusal),
             level: 0,
             deviation: ForeignDeviation { value: 0 },
             spread: ForeignSpread { value: 0 },
+            pairs: ForeignPairs { value: 0 },
         },
     }
 }
@@ -149,6 +161,20 @@ fn limit_in(limit: ForeignLimit) -> Limit
     Limit::AtMost(limit.at_most)
 }
 
+// A group's limits as they came across.
+fn limits_in(limits: ForeignLimits) -> Limits
+    ensures { λ r. ⌜ r ≡ foreignLimits limits ⌝ }
+{
+    let deviation = limits.deviation;
+    let spread = limits.spread;
+    let pairs = limits.pairs;
+    Limits {
+        deviation: limit_in(deviation),
+        spread: limit_in(spread),
+        pairs: limit_in(pairs),
+    }
+}
+
 // A narrowing as it crosses.
 fn narrowing_out(answer: Narrowing) -> ForeignRefusal
     ensures { λ r. ⌜ r ≡ foreignNarrowed answer ⌝ }
@@ -175,12 +201,6 @@ pub extern "C" fn danivomel_narrow(
     ensures { λ _. ⌜ now (lows .exit) ≡ listAfter (narrowing (now (lows .entry)) (now (highs .entry)) (now (marks .entry)) total (foreignLimits limits)) (markedLows (now (marks .entry)) (now (lows .entry)) (now (highs .entry)) total (foreignLimits limits)) (now (lows .entry)) ⌝ }
     ensures { λ _. ⌜ now (highs .exit) ≡ listAfter (narrowing (now (lows .entry)) (now (highs .entry)) (now (marks .entry)) total (foreignLimits limits)) (markedHighs (now (marks .entry)) (now (lows .entry)) (now (highs .entry)) total (foreignLimits limits)) (now (highs .entry)) ⌝ }
 {
-    let deviation = limits.deviation;
-    let spread = limits.spread;
-    let both = Limits {
-        deviation: limit_in(deviation),
-        spread: limit_in(spread),
-    };
-    let answer = group::narrow(lows, highs, marks, total, both);
+    let answer = group::narrow(lows, highs, marks, total, limits_in(limits));
     narrowing_out(answer)
 }

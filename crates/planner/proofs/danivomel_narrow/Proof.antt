@@ -3,11 +3,8 @@ use borrow.Author.Needs.{needs}
 use Rattle.planner.proofs.danivomel_narrow.Statement.{statement}
 use Rattle.planner.proofs.danivomel_narrow.Tie as tie
 
-limit-in-requires : tie.Need-limit-in-requires
-limit-in-requires c κs = search needs
-
-limit-in-requires-2 : tie.Need-limit-in-requires-2
-limit-in-requires-2 c κs = search needs
+limits-in-requires : tie.Need-limits-in-requires
+limits-in-requires c κs = search needs
 
 narrow-requires : tie.Need-narrow-requires
 narrow-requires c κs = search needs
@@ -23,19 +20,16 @@ same-length-2 c = search needs
 
 returns : tie.Need-returns
 returns c =
-    let answer = c .before .before .before .before .before .narrow .ensures in
-    let spread = c .before .before .before .before .before .before .before .before .limit-in2 .ensures in
-    let deviation = c .before .before .before .before .before .before .before .before .before .limit-in .ensures in (
-      rw (c .narrowing-out .ensures, answer .0, deviation, spread),
-      rw (← deviation, ← spread, ← answer .0) (answer .1),
-    )
+    let call = c .before .before .before .before .before in
+    let answer = call .narrow .ensures in
+    let limits = call .before .limits-in .ensures in
+    (rw (c .narrowing-out .ensures, answer .0, limits), rw (← limits, ← answer .0) (answer .1))
 
 pub danivomel-narrow-spec : {M : Type 1} → statement M
 danivomel-narrow-spec =
     tie.close
     (tie.spec
-    limit-in-requires
-    limit-in-requires-2
+    limits-in-requires
     narrow-requires
     narrowing-out-requires
     same-length
