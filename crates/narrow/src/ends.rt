@@ -9,6 +9,9 @@ use model::numbers::apart;
 use probe::pinned::Trial;
 use probe::pinned::into_reach;
 use probe::pinned::last_within;
+use probe::probing::Tried;
+use probe::probing::asks_pairs;
+use probe::probing::try_paired;
 use probe::probing::try_value;
 use probe::terms::Terms;
 ghost use mathlib.Core.Bool.{true};
@@ -19,6 +22,7 @@ ghost use Rattle.model.specs.Plans.{taken};
 ghost use Rattle.probe.specs.Inner.Probes.{Probeable, LastWithin, pinnedTotal};
 ghost use Rattle.probe.specs.Inner.Rows.{rowAt};
 ghost use Rattle.probe.specs.Inner.Terms.{Termed};
+ghost use Rattle.probe.specs.Inner.Verdicts.{Triable, Decides};
 ghost use Rattle.narrow.specs.Inner.Edges.{Amid, Edge, Approach, Search};
 ghost use Rattle.narrow.specs.Inner.Known.{SharedHolds, RowOf, EdgeFound, EndFound};
 
@@ -73,6 +77,34 @@ fn fewer(tries: u64) -> u64 {
     tries - 1
 }
 
+// Tries a value between two others. What pairs are asked with is copied first: what a call is handed lies in memory, and a trial without
+// pairs is to stay out of it. That each caller has a function of its own lets the trial be compiled into both.
+fn try_between(
+    lows: &[u64],
+    highs: &[u64],
+    table: &[u64],
+    question: Question,
+    terms: Terms,
+    trial: Trial,
+) -> Tried
+    requires { ⌜ Triable (now lows) (now highs) (now table) (question .total) (question .limits) terms (trial .low) (trial .high) (trial .value) ⌝ }
+    ensures { λ r. ⌜ Decides (now (lows .entry)) (now (highs .entry)) (question .total) (question .limits) (trial .low) (trial .high) (trial .value) (r .taken) ⌝ }
+    ensures { λ r. ⌜ LastWithin (now (table .entry)) (terms .last) (trial .low) (trial .high) (trial .value) (question .total) (r .row) ⌝ }
+{
+    let tried = try_value(lows, highs, table, question, terms, trial);
+    if !asks_pairs(tried.taken, terms.pairs) {
+        return tried;
+    }
+    let asked = terms;
+    let same = trial;
+    let paired = try_paired(lows, highs, table, asked, same);
+    Tried {
+        taken: paired.taken,
+        inward: paired.inward,
+        row: paired.row,
+    }
+}
+
 // The value nearest to the outer one of a gap that some plan gives the member, and the one next to it.
 fn edge(
     lows: &[u64],
@@ -108,7 +140,7 @@ fn edge(
             value,
             row,
         };
-        let tried = try_value(lows, highs, table, question, terms, trial);
+        let tried = try_between(lows, highs, table, question, terms, trial);
         inward = tried.inward;
         row = tried.row;
         tries = fewer(tries);
@@ -173,6 +205,33 @@ fn edge_noted(
     }
 }
 
+// Tries the value that a search begins with, in the same way.
+fn try_end(
+    lows: &[u64],
+    highs: &[u64],
+    table: &[u64],
+    question: Question,
+    terms: Terms,
+    trial: Trial,
+) -> Tried
+    requires { ⌜ Triable (now lows) (now highs) (now table) (question .total) (question .limits) terms (trial .low) (trial .high) (trial .value) ⌝ }
+    ensures { λ r. ⌜ Decides (now (lows .entry)) (now (highs .entry)) (question .total) (question .limits) (trial .low) (trial .high) (trial .value) (r .taken) ⌝ }
+    ensures { λ r. ⌜ LastWithin (now (table .entry)) (terms .last) (trial .low) (trial .high) (trial .value) (question .total) (r .row) ⌝ }
+{
+    let tried = try_value(lows, highs, table, question, terms, trial);
+    if !asks_pairs(tried.taken, terms.pairs) {
+        return tried;
+    }
+    let asked = terms;
+    let same = trial;
+    let paired = try_paired(lows, highs, table, asked, same);
+    Tried {
+        taken: paired.taken,
+        inward: paired.inward,
+        row: paired.row,
+    }
+}
+
 // How far from the share to the end plans give the member values, by trials.
 pub(crate) fn search(
     lows: &[u64],
@@ -199,7 +258,7 @@ pub(crate) fn search(
         value,
         row,
     };
-    let tried = try_value(lows, highs, table, question, terms, trial);
+    let tried = try_end(lows, highs, table, question, terms, trial);
     let row = tried.row;
     let was = way.shared;
     if tried.taken {

@@ -20,7 +20,7 @@ ghost use Rattle.probe.specs.Inner.Pairs.{aboveLevel, WithValue, WithOve
 ghost use Rattle.probe.specs.Inner.Verdicts.{Asked};
 
 // A level with copies left over, and the row below it.
-pub struct Spot {
+pub struct LevelSpot {
     pub row: usize,
     pub level: u64,
     pub over: u64,
@@ -59,7 +59,7 @@ fn with_value(
 
 // The pair differences with the copies left over given out: each takes a share further from those at the level and below,
 // and nearer to those above.
-fn with_over(count: u64, lows: u64, trial: Trial, spot: Spot, pairs: u64) -> u64
+fn with_over(count: u64, lows: u64, trial: Trial, spot: LevelSpot, pairs: u64) -> u64
     requires { ⌜ OverGiven count lows (trial .low) (trial .high) (trial .value) (spot .level) (spot .over) pairs ⌝ }
     ensures { λ r. ⌜ WithOver count lows (trial .low) (trial .high) (trial .value) (spot .level) (spot .over) pairs r ⌝ }
 {
@@ -76,7 +76,7 @@ pub fn pinned_pairs(
     table: &[u64],
     terms: Terms,
     trial: Trial,
-    spot: Spot,
+    spot: LevelSpot,
 ) -> u64
     requires { ⌜ PairLookable (now lows) (now highs) (now table) terms ⌝ }
     requires { ⌜ Spotted (now lows) (now highs) (now table) terms (trial .low) (trial .high) (trial .value) spot ⌝ }
@@ -105,7 +105,7 @@ fn one_if_between(value: u64, high: u64, level: u64) -> u64 {
 // How far inward of a value whose pairs are over by so much the first one within the limit can lie. A value nearer takes 2 off, and 2 more
 // for each other member strictly between it and the member that gets the copy or gives one. Those at their lows or highs stay where they are;
 // those that grow come between one by one, in turns. It is tried there next, so that this matters to the time alone.
-pub fn pair_step(table: &[u64], last: usize, trial: Trial, spot: Spot, much: u64) -> u64
+pub fn pair_step(table: &[u64], last: usize, trial: Trial, spot: LevelSpot, much: u64) -> u64
     requires { ⌜ MarksKept (now table) last ⌝ }
     requires { ⌜ spot .row ≤ last ⌝ }
 {

@@ -1,7 +1,7 @@
 // Probes of pinned values on the breakpoint table of a group.
 use crate::figures::pinned_squares;
 use crate::newton::newton_step;
-use crate::pairs::Spot;
+use crate::pairs::LevelSpot;
 use crate::pairs::pair_step;
 use crate::pairs::pinned_pairs;
 use crate::pinned::Trial;
@@ -17,14 +17,14 @@ use model::Question;
 use model::Share;
 use model::levels::clamp;
 use model::numbers::apart;
+ghost use mathlib.Core.Bool.{true, false};
+ghost use mathlib.Core.Logic.{_⊎_};
 ghost use mathlib.Core.Path.{_≡_};
+ghost use Prim.Native.Nat.{_≤_, _<_};
 ghost use Rattle.probe.specs.Inner.Probes.{LastWithin};
-ghost use Rattle.model.specs.Plans.{hasPlan};
-ghost use Rattle.model.specs.declared.Limits.{Limits};
-ghost use Rattle.probe.specs.Inner.Distances.{PairLookable};
-ghost use Rattle.probe.specs.Inner.Pairs.{SpotBelow, Spotted};
-ghost use Rattle.probe.specs.Inner.Terms.{LimitTerms};
-ghost use Rattle.probe.specs.Inner.Verdicts.{Lookable, Triable, PinnedFigures, PairsTold, withinTerms, Decides, LevelledOn};
+ghost use Rattle.probe.specs.Inner.Distances.{mostPairs};
+ghost use Rattle.probe.specs.Inner.Pairs.{SpotBelow};
+ghost use Rattle.probe.specs.Inner.Verdicts.{Lookable, Triable, PinnedFigures, withinTerms, Judged, DecidesFor, LevelledOn};
 
 // What a look at a pinned group finds: half of the deviation and the sum of squares of its levelled shares, and the level
 // of the others there with the copies left over.
@@ -83,39 +83,8 @@ fn step_inward(terms: Terms, trial: Trial, pinned: Pinned) -> u64 {
     newton_step(squares, half, distance, terms.count)
 }
 
-// Tries a value that the other limits allow, under a pairs limit.
-fn try_pairs(
-    lows: &[u64],
-    highs: &[u64],
-    table: &[u64],
-    terms: Terms,
-    trial: Trial,
-    spot: Spot,
-) -> Tried
-    requires { ⌜ PairLookable (now lows) (now highs) (now table) terms ⌝ }
-    requires { ⌜ Spotted (now lows) (now highs) (now table) terms (trial .low) (trial .high) (trial .value) spot ⌝ }
-    ensures { λ r. ⌜ PairsTold (now (lows .entry)) (now (highs .entry)) terms (trial .low) (trial .high) (trial .value) (spot .level) (spot .over) (r .taken) ⌝ }
-    ensures { λ r. ⌜ r .row ≡ spot .row ⌝ }
-{
-    let pairs = pinned_pairs(lows, highs, table, terms, trial, spot);
-    if pairs <= terms.pairs {
-        return Tried {
-            taken: true,
-            inward: Share::GREATEST,
-            row: spot.row,
-        };
-    }
-    let inward = pair_step(table, terms.last, trial, spot, pairs - terms.pairs);
-    Tried {
-        taken: false,
-        inward,
-        row: spot.row,
-    }
-}
-
-// Tries a value. Newton's steps do not pass the last value that is taken, so that after a value with a plan the one next to
-// it comes: as far inward as can be. Pairs are asked for last, where the other figures are within their limits. The question is
-// there for the contract: the terms are of it.
+// Tries a value under the limits of deviation and spread. Newton's steps do not pass the last value that is taken, so that after a
+// value with a plan the one next to it comes: as far inward as can be. The question is there for the contract: the terms are of it.
 pub fn try_value(
     lows: &[u64],
     highs: &[u64],
@@ -125,32 +94,73 @@ pub fn try_value(
     trial: Trial,
 ) -> Tried
     requires { ⌜ Triable (now lows) (now highs) (now table) (question .total) (question .limits) terms (trial .low) (trial .high) (trial .value) ⌝ }
-    ensures { λ r. ⌜ Decides (now (lows .entry)) (now (highs .entry)) (question .total) (question .limits) (trial .low) (trial .high) (trial .value) (r .taken) ⌝ }
+    ensures { λ r. ⌜ Judged (now (lows .entry)) (now (highs .entry)) (question .total) (question .limits) terms (trial .low) (trial .high) (trial .value) (r .taken) ⌝ }
     ensures { λ r. ⌜ LastWithin (now (table .entry)) (terms .last) (trial .low) (trial .high) (trial .value) (question .total) (r .row) ⌝ }
 {
     let row = last_within(table, terms.last, trial, terms.total);
     let pinned = look(lows, highs, table, terms, trial, row);
-    if !within(terms, pinned) {
-        let inward = step_inward(terms, trial, pinned);
-        return Tried {
-            taken: false,
-            inward,
-            row,
-        };
-    }
-    if MOST_PAIRS <= terms.pairs {
+    if within(terms, pinned) {
         return Tried {
             taken: true,
             inward: Share::GREATEST,
             row,
         };
     }
-    let spot = Spot {
+    let inward = step_inward(terms, trial, pinned);
+    Tried {
+        taken: false,
+        inward,
         row,
-        level: pinned.level,
-        over: pinned.over,
+    }
+}
+
+// Whether pairs are still to be asked for: the other limits allow the value, and pairs are limited.
+pub fn asks_pairs(taken: bool, pairs: u64) -> bool
+    ensures { λ r. ⌜ (r ≡ true → pairs < mostPairs) ⌝ }
+    ensures { λ r. ⌜ (r ≡ false → (taken ≡ false) ⊎ (mostPairs ≤ pairs)) ⌝ }
+{
+    if !taken {
+        return false;
+    }
+    pairs < MOST_PAIRS
+}
+
+// Tries a value under all three limits, pairs last.
+pub fn try_paired(lows: &[u64], highs: &[u64], table: &[u64], terms: Terms, trial: Trial) -> Tried
+    requires { ⌜ Lookable (now lows) (now highs) (now table) terms (trial .low) (trial .high) (trial .value) ⌝ }
+    requires { ⌜ terms .pairs < mostPairs ⌝ }
+    ensures { λ r. ⌜ DecidesFor (now (lows .entry)) (now (highs .entry)) terms (trial .low) (trial .high) (trial .value) (r .taken) ⌝ }
+    ensures { λ r. ⌜ LastWithin (now (table .entry)) (terms .last) (trial .low) (trial .high) (trial .value) (terms .total) (r .row) ⌝ }
+{
+    let row = last_within(table, terms.last, trial, terms.total);
+    let found = look(lows, highs, table, terms, trial, row);
+    if !within(terms, found) {
+        let inward = step_inward(terms, trial, found);
+        return Tried {
+            taken: false,
+            inward,
+            row,
+        };
+    }
+    let spot = LevelSpot {
+        row,
+        level: found.level,
+        over: found.over,
     };
-    try_pairs(lows, highs, table, terms, trial, spot)
+    let pairs = pinned_pairs(lows, highs, table, terms, trial, spot);
+    if pairs <= terms.pairs {
+        return Tried {
+            taken: true,
+            inward: Share::GREATEST,
+            row,
+        };
+    }
+    let inward = pair_step(table, terms.last, trial, spot, pairs - terms.pairs);
+    Tried {
+        taken: false,
+        inward,
+        row,
+    }
 }
 
 // A level with the copies left over there, the row below it, and whether the limits allow the shares there.
@@ -161,38 +171,23 @@ pub struct Levelled {
     pub planned: bool,
 }
 
-// Whether the limits allow what was found, pairs last.
+// Whether the group itself has a plan, by what was found of it, and by pairs where these are limited.
 fn meets_all(
     lows: &[u64],
     highs: &[u64],
     table: &[u64],
     terms: Terms,
+    whole: Trial,
     pinned: Pinned,
-    row: usize,
 ) -> bool
-    requires { ⌜ Lookable (now lows) (now highs) (now table) terms 0 0 0 ⌝ }
-    requires { ⌜ PinnedFigures (now lows) (now highs) terms 0 0 0 pinned ⌝ }
-    requires { ⌜ SpotBelow (now table) (terms .last) row (pinned .level) (pinned .over) ⌝ }
-    ensures { λ r. ⌜ ((limits : Limits) → LimitTerms limits terms → r ≡ hasPlan (now (lows .entry)) (now (highs .entry)) (terms .total) limits) ⌝ }
+    requires { ⌜ Lookable (now lows) (now highs) (now table) terms (whole .low) (whole .high) (whole .value) ⌝ }
+    requires { ⌜ PinnedFigures (now lows) (now highs) terms (whole .low) (whole .high) (whole .value) pinned ⌝ }
+    ensures { λ r. ⌜ DecidesFor (now (lows .entry)) (now (highs .entry)) terms (whole .low) (whole .high) (whole .value) r ⌝ }
 {
-    if !within(terms, pinned) {
-        return false;
-    }
     if MOST_PAIRS <= terms.pairs {
-        return true;
+        return within(terms, pinned);
     }
-    let whole = Trial {
-        low: 0,
-        high: 0,
-        value: 0,
-        row,
-    };
-    let spot = Spot {
-        row,
-        level: pinned.level,
-        over: pinned.over,
-    };
-    pinned_pairs(lows, highs, table, terms, whole, spot) <= terms.pairs
+    try_paired(lows, highs, table, terms, whole).taken
 }
 
 // The level at which the group has its total, and whether it has a plan: the group itself is one with 0 pinned to 0.
@@ -208,7 +203,7 @@ pub fn level_on(lows: &[u64], highs: &[u64], table: &[u64], terms: Terms) -> Lev
     };
     let row = last_within(table, terms.last, whole, terms.total);
     let pinned = look(lows, highs, table, terms, whole, row);
-    let planned = meets_all(lows, highs, table, terms, pinned, row);
+    let planned = meets_all(lows, highs, table, terms, whole, pinned);
     Levelled {
         row,
         level: pinned.level,

@@ -5,7 +5,7 @@ use mathlib.Core.Path.{_≡_}
 use Rattle.model.specs.Shares.{greatestShare, mostUnits}
 use Rattle.model.specs.Figures.{pairs}
 use Rattle.model.specs.Levels.{clamp, clamped, topped}
-use Rattle.probe.specs.declared.pairs.Spot.{Spot}
+use Rattle.probe.specs.declared.pairs.LevelSpot.{LevelSpot}
 use Rattle.probe.specs.declared.terms.Terms.{Terms}
 use Rattle.probe.specs.Inner.Distances.{mostPairs, MarkedBelow}
 use Rattle.probe.specs.Inner.Pinned.{Pin, Reached}
@@ -51,7 +51,7 @@ pub record ReachedAt (lows highs : List ℕ) (total w r : ℕ) : Type 0 where
   pub reached : Reached lows highs total mark moving w r
 
 -- and in all ranges with the value
-pub record Spotted (lows highs table : List ℕ) (terms : Terms) (low high v : ℕ) (spot : Spot) : Type 0 where
+pub record Spotted (lows highs table : List ℕ) (terms : Terms) (low high v : ℕ) (spot : LevelSpot) : Type 0 where
   pub asked : Asked lows highs low high v
   pub under : SpotBelow table (terms .last) (spot .row) (spot .level) (spot .over)
   pub reached : {lows′ highs′ : List ℕ} → Pin lows highs low high v lows′ highs′ → ReachedAt lows′ highs′ (terms .total) (spot .level) (spot .over)

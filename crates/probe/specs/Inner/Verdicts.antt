@@ -1,11 +1,11 @@
 -- What is asked of a probe, and what it finds of the pinned group. Assumes nothing.
 use Prim.Native.Nat.{ℕ, _*_, _≤_, _<_}
-use mathlib.Core.Bool.{Bool, _&&_}
+use mathlib.Core.Bool.{Bool, true, false, _&&_}
 use mathlib.Core.List.{List}
 use mathlib.Core.Path.{_≡_}
 use lib.Dec.{leb}
 use Rattle.model.specs.Shares.{sumOf}
-use Rattle.model.specs.Figures.{deviation, pairs}
+use Rattle.model.specs.Figures.{deviation}
 use Rattle.model.specs.Levels.{topped}
 use Rattle.model.specs.Plans.{hasPlan}
 use Rattle.model.specs.declared.Limits.{Limits}
@@ -64,6 +64,15 @@ withinTerms terms pinned = leb (pinned .half) (terms .half) && leb (pinned .squa
 pub record Decides (lows highs : List ℕ) (total : ℕ) (limits : Limits) (low high v : ℕ) (taken : Bool) : Type 0 where
   pub is : {lows′ highs′ : List ℕ} → Pin lows highs low high v lows′ highs′ → taken ≡ hasPlan lows′ highs′ total limits
 
+-- the same within whatever limits the terms are of
+pub record DecidesFor (lows highs : List ℕ) (terms : Terms) (low high v : ℕ) (taken : Bool) : Type 0 where
+  pub for : {limits : Limits} → LimitTerms limits terms → Decides lows highs (terms .total) limits low high v taken
+
+-- whether the limits of deviation and spread allow a plan: if not, there is none, and if so, there is one where pairs are not limited
+pub record Judged (lows highs : List ℕ) (total : ℕ) (limits : Limits) (terms : Terms) (low high v : ℕ) (taken : Bool) : Type 0 where
+  pub refused : taken ≡ false → Decides lows highs total limits low high v false
+  pub allowed : taken ≡ true → mostPairs ≤ terms .pairs → Decides lows highs total limits low high v true
+
 -- a level with copies left over that gives the group its total, the row below it, and whether the group has a plan within whatever limits the terms are of
 pub record LevelledOn (lows highs table : List ℕ) (terms : Terms) (at : Levelled) : Type 0 where
   pub found : LastWithin table (terms .last) 0 0 0 (terms .total) (at .row)
@@ -71,7 +80,3 @@ pub record LevelledOn (lows highs table : List ℕ) (terms : Terms) (at : Levell
   pub moving : ℕ
   pub reached : Reached lows highs (terms .total) mark moving (at .level) (at .over)
   pub decides : {limits : Limits} → LimitTerms limits terms → at .planned ≡ hasPlan lows highs (terms .total) limits
-
--- whether the pair differences at the level reached are within the terms, for all ranges with the value
-pub record PairsTold (lows highs : List ℕ) (terms : Terms) (low high v w over : ℕ) (met : Bool) : Type 0 where
-  pub is : {lows′ highs′ : List ℕ} → Pin lows highs low high v lows′ highs′ → met ≡ leb (pairs (topped lows′ highs′ w over)) (terms .pairs)

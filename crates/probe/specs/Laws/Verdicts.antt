@@ -2,6 +2,7 @@
 use Prim.Native.Nat.{ℕ, _-_, _*_, _≤_, _<_}
 use mathlib.Core.Bool.{Bool, true, false, _&&_}
 use mathlib.Core.List.{List}
+use mathlib.Core.Logic.{_⊎_, inl, inr}
 use mathlib.Core.Path.{_≡_, refl, sym, ap, _∙_}
 use native.Mathlib.Decide.{decLe}
 use native.Mathlib.Nat.{mul-le-mul}
@@ -20,8 +21,8 @@ use Rattle.model.specs.Laws.Levelled.{topped-within}
 use Rattle.model.specs.Laws.Lists.{within-at, within-length, ranges-at}
 use Rattle.model.specs.Laws.Pairs.{pairs-small}
 use Rattle.model.specs.Laws.Spread.{cauchy-schwarz, sumOf-bound}
-use Rattle.model.specs.Laws.Tests.{right-fails}
-use Rattle.probe.specs.declared.pairs.Spot.{Spot}
+use Rattle.model.specs.Laws.Tests.{right-fails, clash}
+use Rattle.probe.specs.declared.pairs.LevelSpot.{LevelSpot}
 use Rattle.probe.specs.declared.probing.Pinned.{Pinned}
 use Rattle.probe.specs.declared.rows.Row.{Row}
 use Rattle.probe.specs.declared.terms.Terms.{Terms}
@@ -34,8 +35,8 @@ use Rattle.probe.specs.Inner.Pinned.{Pin, Reached}
 use Rattle.probe.specs.Laws.Pinned.{pinned-span, reached-adds, reached-figures}
 use Rattle.probe.specs.Inner.Probes.{pinnedTotal, LastWithin}
 use Rattle.probe.specs.Laws.Probes.{pinned-total}
-use Rattle.probe.specs.Inner.Terms.{LimitTerms}
-use Rattle.probe.specs.Inner.Verdicts.{Lookable, Figured, PinnedFigures, withinTerms}
+use Rattle.probe.specs.Inner.Terms.{LimitTerms, Termed}
+use Rattle.probe.specs.Inner.Verdicts.{Lookable, Figured, PinnedFigures, withinTerms, Decides, DecidesFor, Judged}
 use Rattle.probe.specs.Laws.Terms.{reach-last}
 
 -- three tests in turn
@@ -170,7 +171,7 @@ pair-lookable asked limited = record {
 }
 
 -- at the level that a look finds
-pub spotted : {lows highs table : List ℕ} {terms : Terms} {low high v : ℕ} {pinned : Pinned} {spot : Spot} → Lookable lows highs table terms low high v
+pub spotted : {lows highs table : List ℕ} {terms : Terms} {low high v : ℕ} {pinned : Pinned} {spot : LevelSpot} → Lookable lows highs table terms low high v
     → PinnedFigures lows highs terms low high v pinned → SpotBelow table (terms .last) (spot .row) (spot .level) (spot .over) → spot .level ≡ pinned .level → spot .over ≡ pinned .over
     → Spotted lows highs table terms low high v spot
 spotted asked figures under same-level same-over = record {
@@ -186,9 +187,23 @@ refused-so third same fails told = ap (λ (b : Bool). b && third) (sym fails ∙
 pub met-so : {answer within plan : Bool} (third : Bool) → answer ≡ within → answer ≡ true → within && third ≡ plan → third ≡ plan
 met-so third same holds told = ap (λ (b : Bool). b && third) (sym holds ∙ same) ∙ told
 
--- the same of the total and of the row by other names
+-- the same of the total by another name
 pub decided-as : (lows highs : List ℕ) {total total′ : ℕ} (limits : Limits) {taken : Bool} → total ≡ total′ → taken ≡ hasPlan lows highs total limits → taken ≡ hasPlan lows highs total′ limits
 decided-as lows highs limits same told = rw same at told
 
-pub found-as : {table : List ℕ} {last low high v total k k′ : ℕ} → k′ ≡ k → LastWithin table last low high v total k → LastWithin table last low high v total k′
-found-as same found = rw same found
+-- where pairs are not to be asked for, what the other limits say decides
+pub judged-so : {lows highs : List ℕ} {total : ℕ} {limits : Limits} {terms : Terms} {low high v : ℕ} (taken : Bool) → Judged lows highs total limits terms low high v taken
+    → (taken ≡ false) ⊎ (mostPairs ≤ terms .pairs) → Decides lows highs total limits low high v taken
+judged-so true judged (inl fails) = absurd (clash refl fails)
+judged-so true judged (inr past) = judged .allowed refl past
+judged-so false judged told = judged .refused refl
+
+-- where they are, what all limits say
+pub paired-so : {lows highs table : List ℕ} {total : ℕ} {limits : Limits} {terms : Terms} {low high v : ℕ} {taken : Bool} → Termed lows highs table total limits terms
+    → DecidesFor lows highs terms low high v taken → Decides lows highs total limits low high v taken
+paired-so {limits = limits} termed decided-for =
+    record { is = λ {lows′} {highs′} pin. decided-as lows′ highs′ limits (termed .totals) (decided-for .for (termed .allowed) .is pin) }
+
+pub found-so : {lows highs table : List ℕ} {total : ℕ} {limits : Limits} {terms : Terms} {low high v k : ℕ} → Termed lows highs table total limits terms
+    → LastWithin table (terms .last) low high v (terms .total) k → LastWithin table (terms .last) low high v total k
+found-so termed found = rw (termed .totals) at found

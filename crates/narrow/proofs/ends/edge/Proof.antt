@@ -73,8 +73,8 @@ module _ (c : tie.After-next-value Inv-loop μ-loop) where
       let way = turn .loop .inv .search .way in
       amid-nearer (omega arith) (way .small) (way .share-small) (c .next-value .ensures)
 
-try-value-requires : tie.Need-try-value-requires Inv-loop μ-loop
-try-value-requires c κs = search-triable (turn c .loop .inv .search) (c .next-value .ensures) (nearer c .2) (start c .pre .1 .1)
+try-between-requires : tie.Need-try-between-requires Inv-loop μ-loop
+try-between-requires c κs = search-triable (turn c .loop .inv .search) (c .next-value .ensures) (nearer c .2) (start c .pre .1 .1)
 
 fewer-requires : tie.Need-fewer-requires Inv-loop μ-loop
 fewer-requires c κs = search needs
@@ -86,7 +86,7 @@ loop-again : tie.Need-loop-again Inv-loop μ-loop
 loop-again c =
     let v = c .before .before .before in
     let inv = turn v .loop .inv in
-    let tried = c .before .before .try-value .ensures in
+    let tried = c .before .before .try-between .ensures in
     let passes = sym (told (inv .search .way) _ (nearer v .2) (tried .0)) ∙ c .if2 .taken in
     record {
       straddle = straddle-in (test v) _ _ _ _ _ (inv .straddle) (v .next-value .ensures) passes;
@@ -102,7 +102,7 @@ loop-again-2 : tie.Need-loop-again-2 Inv-loop μ-loop
 loop-again-2 c =
     let v = c .before .before .before in
     let inv = turn v .loop .inv in
-    let tried = c .before .before .try-value .ensures in
+    let tried = c .before .before .try-between .ensures in
     let fails = sym (told (inv .search .way) _ (nearer v .2) (tried .0)) ∙ c .if2 .left in
     record {
       straddle = straddle-out (test v) _ _ _ _ _ (inv .straddle) (v .next-value .ensures) fails;
@@ -117,4 +117,4 @@ returns c = record { bracketed = c .before .before .loop .inv; near = omega arit
 pub edge-spec : {M : Type 1} → statement M
 edge-spec =
     tie.close
-    (tie.spec Inv-loop μ-loop mul-low shared-slice-read-low mul-high shared-slice-read-high loop-holds apart-requires next-value-requires try-value-requires fewer-requires loop-less loop-again loop-less-2 loop-again-2 returns)
+    (tie.spec Inv-loop μ-loop mul-low shared-slice-read-low mul-high shared-slice-read-high loop-holds apart-requires next-value-requires try-between-requires fewer-requires loop-less loop-again loop-less-2 loop-again-2 returns)

@@ -64,13 +64,13 @@ module _ (c : tie.After-into-reach) where
   there : MovedIntoReach way (c .into-reach .result)
   there = moved way (reach-told (start .pre .1 .0) (c .into-reach .ensures))
 
-try-value-requires : tie.Need-try-value-requires
-try-value-requires c κs = triable (way c) _ (there c .small) (start c .pre .1 .0) (there c .inReach)
+try-end-requires : tie.Need-try-end-requires
+try-end-requires c κs = triable (way c) _ (there c .small) (start c .pre .1 .0) (there c .inReach)
 
 -- what the trial tells
-module _ (c : tie.After-try-value) where
-  is-taken : c .try-value .result .taken ≡ taken (lows (c .before)) (highs (c .before)) (total (c .before)) (limits (c .before)) (i (c .before)) (c .before .into-reach .result)
-  is-taken = told (way (c .before)) _ (there (c .before) .small) (c .try-value .ensures .0)
+module _ (c : tie.After-try-end) where
+  is-taken : c .try-end .result .taken ≡ taken (lows (c .before)) (highs (c .before)) (total (c .before)) (limits (c .before)) (i (c .before)) (c .before .into-reach .result)
+  is-taken = told (way (c .before)) _ (there (c .before) .small) (c .try-end .ensures .0)
 
 noted-requires : tie.Need-noted-requires
 noted-requires c κs =
@@ -85,7 +85,7 @@ returns c =
     let passes = sym (is-taken tried) ∙ c .before .if1 .taken in
     record {
       reaches = nearest-reach (there at .nearest) passes;
-      known = trial-known (way at .tabled) (way at .here) (start at .pre .1 .1) (there at .small) passes (rw (ended at) at (tried .try-value .ensures .1)) (rw (ended at) at (c .noted .ensures));
+      known = trial-known (way at .tabled) (way at .here) (start at .pre .1 .1) (there at .small) passes (rw (ended at) at (tried .try-end .ensures .1)) (rw (ended at) at (c .noted .ensures));
     }
 
 -- the value in reach is not taken: the way from the share to it is searched
@@ -106,7 +106,7 @@ module _ (e : tie.Else1) where
       }
 
 edge-noted-requires : tie.Need-edge-noted-requires
-edge-noted-requires c κs = (searched c, (rw (ended (from c)) at (c .before .before .try-value .ensures .1), start (from c) .pre .1))
+edge-noted-requires c κs = (searched c, (rw (ended (from c)) at (c .before .before .try-end .ensures .1), start (from c) .pre .1))
 
 returns-2 : tie.Need-returns-2
 returns-2 c =
@@ -125,7 +125,7 @@ search-spec =
     mul-high
     shared-slice-read-high
     into-reach-requires
-    try-value-requires
+    try-end-requires
     noted-requires
     returns
     edge-noted-requires

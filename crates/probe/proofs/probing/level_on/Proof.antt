@@ -13,7 +13,7 @@ look-requires c κs = (c .before .before .before .before .before .pre, c .last-w
 meets-all-requires : tie.Need-meets-all-requires
 meets-all-requires c κs =
     let s = c .before .before .before .before .before .before in
-    (s .pre, (c .look .ensures .0, c .look .ensures .1))
+    (s .pre, c .look .ensures .0)
 
 returns : tie.Need-returns
 returns c =
@@ -24,7 +24,7 @@ returns c =
       mark = figured .mark;
       moving = figured .moving;
       reached = figured .reached;
-      decides = c .meets-all .ensures _;
+      decides = λ allowed. c .meets-all .ensures .for allowed .is (unpinned (s .pre .sound .ranges));
     }
 
 pub level-on-spec : {M : Type 1} → statement M

@@ -1,16 +1,16 @@
--- What is found is within the terms exactly where the group with a member pinned to the value has a plan. Assumes nothing.
+-- What is found is within the terms of deviation and spread where the group with a member pinned to the value has a plan, but for pairs. Assumes nothing.
 use borrow.Author.Needs.{needs}
-use borrow.Author.Tests.{not-true, not-false}
-use mathlib.Core.Bool.{Bool}
+use mathlib.Core.Bool.{Bool, true, false}
 use mathlib.Core.List.{List}
-use mathlib.Core.Path.{_≡_, refl}
+use mathlib.Core.Path.{_≡_, refl, sym}
 use Prim.Native.Nat.{ℕ}
 use Rattle.model.specs.Plans.{hasPlan}
+use Rattle.model.specs.Laws.Tests.{clash}
 use Rattle.probe.specs.Inner.Pinned.{Pin}
 use Rattle.probe.specs.Inner.Probes.{LastWithin}
 use Rattle.probe.specs.Inner.Verdicts.{Lookable, Decides}
 use Rattle.probe.specs.Laws.Terms.{lookable, row-findable}
-use Rattle.probe.specs.Laws.Verdicts.{decides, pairs-unasked, pairs-asked, pair-lookable, spotted, refused-so, met-so, decided-as, found-as}
+use Rattle.probe.specs.Laws.Verdicts.{decides, pairs-unasked, refused-so, met-so, decided-as}
 use Rattle.probe.proofs.probing.try_value.Statement.{statement}
 use Rattle.probe.proofs.probing.try_value.Tie as tie
 
@@ -31,7 +31,7 @@ module _ (c : tie.After-within) where
   asked : Lookable (start .args .lows .now) (start .args .highs .now) (start .args .table .now) (start .args .terms) (start .args .trial .low) (start .args .trial .high) (start .args .trial .value)
   asked = lookable (start .pre)
 
-  -- with the test of the two figures, and what pairs say of all ranges with the value
+  -- the total is that of the terms
   is-decided : {taken : Bool} → ((lows′ highs′ : List ℕ) → Pin (start .args .lows .now) (start .args .highs .now) (start .args .trial .low) (start .args .trial .high) (start .args .trial .value) lows′ highs′
       → taken ≡ hasPlan lows′ highs′ (start .args .terms .total) (start .args .question .limits))
       → Decides (start .args .lows .now) (start .args .highs .now) (start .args .question .total) (start .args .question .limits) (start .args .trial .low) (start .args .trial .high) (start .args .trial .value) taken
@@ -41,52 +41,34 @@ module _ (c : tie.After-within) where
   is-found : LastWithin (start .args .table .now) (start .args .terms .last) (start .args .trial .low) (start .args .trial .high) (start .args .trial .value) (start .args .question .total) (c .before .before .last-within .result)
   is-found = rw (start .pre .termed .totals) at (c .before .before .last-within .ensures)
 
-step-inward-requires : tie.Need-step-inward-requires
-step-inward-requires c κs = search needs
-
 returns : tie.Need-returns
 returns c =
-    let t = c .before in
-    let w = t .before in
-    let allowed = start w .pre .termed .allowed in
-    (is-decided w (λ lows′ highs′ pin. refused-so _ (w .within .ensures) (not-true _ (t .if1 .taken)) (decides (asked w) allowed pin (w .before .look .ensures .0 .is pin) refl)), is-found w)
-
-returns-2 : tie.Need-returns-2
-returns-2 c =
-    let e = c .before .before in
-    let w = e .before in
+    let w = c .before in
     let allowed = start w .pre .termed .allowed in
     let found = w .before .look .ensures .0 in (
-      is-decided w (λ lows′ highs′ pin. met-so _ (w .within .ensures) (not-false _ (e .if1 .left))
-          (decides (asked w) allowed pin (found .is pin) (pairs-unasked (asked w) allowed pin (found .is pin .reached) (c .if2 .taken)))),
+      record {
+        refused = λ no. absurd (clash refl no);
+        allowed = λ yes past. is-decided w (λ lows′ highs′ pin. met-so _ (w .within .ensures) (c .if1 .taken)
+            (decides (asked w) allowed pin (found .is pin) (pairs-unasked (asked w) allowed pin (found .is pin .reached) past)));
+      },
       is-found w,
     )
 
-try-pairs-requires : tie.Need-try-pairs-requires
-try-pairs-requires c κs =
-    let w = c .before .before .before in
-    (pair-lookable (asked w) (c .if2 .left), spotted (asked w) (w .before .look .ensures .0) (w .before .look .ensures .1) refl refl)
+step-inward-requires : tie.Need-step-inward-requires
+step-inward-requires c κs = search needs
 
-returns-3 : tie.Need-returns-3
-returns-3 c =
-    let e = c .before .before .before in
+returns-2 : tie.Need-returns-2
+returns-2 c =
+    let e = c .before in
     let w = e .before in
-    let allowed = start w .pre .termed .allowed in
-    let found = w .before .look .ensures .0 in (
-      is-decided w (λ lows′ highs′ pin. met-so _ (w .within .ensures) (not-false _ (e .if1 .left))
-          (decides (asked w) allowed pin (found .is pin) (pairs-asked (asked w) allowed pin (found .is pin .reached) (c .try-pairs .ensures .0 .is pin)))),
-      found-as (c .try-pairs .ensures .1) (is-found w),
+    let allowed = start w .pre .termed .allowed in (
+      record {
+        refused = λ no. is-decided w (λ lows′ highs′ pin. refused-so _ (w .within .ensures) (e .if1 .left) (decides (asked w) allowed pin (w .before .look .ensures .0 .is pin) refl));
+        allowed = λ yes past. absurd (clash yes refl);
+      },
+      is-found w,
     )
 
 pub try-value-spec : {M : Type 1} → statement M
 try-value-spec =
-    tie.close
-    (tie.spec
-    last-within-requires
-    look-requires
-    within-requires
-    step-inward-requires
-    returns
-    returns-2
-    try-pairs-requires
-    returns-3)
+    tie.close (tie.spec last-within-requires look-requires within-requires returns step-inward-requires returns-2)
