@@ -129,7 +129,8 @@ typedef struct {
 
 /*
  * A group's limits: the deviation's 0 to 100,000,000,000, the spread's 0 to 100,000,000,000,000,000, and that of the
- * pair differences 0 to 100,000,000,000.
+ * pair differences 0 to 100,000,000,000. Set all three: one that an initialiser leaves out is 0, the tightest, and not
+ * any.
  */
 typedef struct {
     danivomel_limit deviation;

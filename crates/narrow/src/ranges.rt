@@ -107,7 +107,19 @@ fn narrow_within(
     )
 }
 
-// The same for a group of at most 4 members, with small arrays: clearing large ones would be much of its time.
+// The same for a group of at most 2 members, with small arrays: clearing large ones would be much of its time.
+fn narrow_couple(lows: &mut [u64], highs: &mut [u64], question: Question) -> bool
+    requires { ⌜ HasShares (now lows) (now highs) (question .total) ⌝ }
+    requires { ⌜ length (now lows) ≤ 2 ⌝ }
+    ensures { λ r. ⌜ NarrowedIf (now (lows .entry)) (now (highs .entry)) (question .total) (question .limits) r (now (lows .exit)) (now (highs .exit)) ⌝ }
+{
+    let mut starts = [0u64; 2];
+    let mut stops = [0u64; 2];
+    let mut table = [0u64; 35];
+    narrow_within(lows, highs, question, &mut starts, &mut stops, &mut table)
+}
+
+// The same for a group of at most 4 members.
 fn narrow_handful(lows: &mut [u64], highs: &mut [u64], question: Question) -> bool
     requires { ⌜ HasShares (now lows) (now highs) (question .total) ⌝ }
     requires { ⌜ length (now lows) ≤ 4 ⌝ }
@@ -172,6 +184,9 @@ fn narrow_sized(lows: &mut [u64], highs: &mut [u64], question: Question) -> bool
     ensures { λ r. ⌜ NarrowedIf (now (lows .entry)) (now (highs .entry)) (question .total) (question .limits) r (now (lows .exit)) (now (highs .exit)) ⌝ }
 {
     let count = lows.len();
+    if count <= 2 {
+        return narrow_couple(lows, highs, question);
+    }
     if count <= 4 {
         return narrow_handful(lows, highs, question);
     }

@@ -102,7 +102,7 @@ all-shut {ms} {ls} {hs} marked none total (xs, within, adds) =
     by [] empty is = sym is
     by (y ∷ ys) empty is = absurd (omega arith)
 
--- and both figures are 0
-pub all-shut-figures : (ms xs : List ℕ) → running ms xs ≡ [] → (markedDeviation ms 0 xs ≡ 0) × (markedSpread ms 0 xs ≡ 0)
-unfolding deviation spread sumOf
-all-shut-figures ms xs none = rw none (refl, refl)
+-- and all three figures are 0
+pub all-shut-figures : (ms xs : List ℕ) → running ms xs ≡ [] → (markedDeviation ms 0 xs ≡ 0) × (markedSpread ms 0 xs ≡ 0) × (markedPairs ms xs ≡ 0)
+unfolding deviation spread pairs sumOf
+all-shut-figures ms xs none = rw none (refl, refl, refl)
