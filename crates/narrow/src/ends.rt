@@ -10,9 +10,9 @@ use probe::pinned::Trial;
 use probe::pinned::into_reach;
 use probe::pinned::last_within;
 use probe::probing::Tried;
-use probe::probing::asks_pairs;
 use probe::probing::try_paired;
 use probe::probing::try_value;
+use probe::terms::MOST_PAIRS;
 use probe::terms::Terms;
 ghost use mathlib.Core.Bool.{true};
 ghost use mathlib.Core.Path.{_≡_};
@@ -91,18 +91,17 @@ fn try_between(
     ensures { λ r. ⌜ Decides (now (lows .entry)) (now (highs .entry)) (question .total) (question .limits) (trial .low) (trial .high) (trial .value) (r .taken) ⌝ }
     ensures { λ r. ⌜ LastWithin (now (table .entry)) (terms .last) (trial .low) (trial .high) (trial .value) (question .total) (r .row) ⌝ }
 {
-    let tried = try_value(lows, highs, table, question, terms, trial);
-    if !asks_pairs(tried.taken, terms.pairs) {
-        return tried;
+    if terms.pairs < MOST_PAIRS {
+        let asked = terms;
+        let same = trial;
+        let paired = try_paired(lows, highs, table, asked, same);
+        return Tried {
+            taken: paired.taken,
+            inward: paired.inward,
+            row: paired.row,
+        };
     }
-    let asked = terms;
-    let same = trial;
-    let paired = try_paired(lows, highs, table, asked, same);
-    Tried {
-        taken: paired.taken,
-        inward: paired.inward,
-        row: paired.row,
-    }
+    try_value(lows, highs, table, question, terms, trial)
 }
 
 // The value nearest to the outer one of a gap that some plan gives the member, and the one next to it.
@@ -218,18 +217,17 @@ fn try_end(
     ensures { λ r. ⌜ Decides (now (lows .entry)) (now (highs .entry)) (question .total) (question .limits) (trial .low) (trial .high) (trial .value) (r .taken) ⌝ }
     ensures { λ r. ⌜ LastWithin (now (table .entry)) (terms .last) (trial .low) (trial .high) (trial .value) (question .total) (r .row) ⌝ }
 {
-    let tried = try_value(lows, highs, table, question, terms, trial);
-    if !asks_pairs(tried.taken, terms.pairs) {
-        return tried;
+    if terms.pairs < MOST_PAIRS {
+        let asked = terms;
+        let same = trial;
+        let paired = try_paired(lows, highs, table, asked, same);
+        return Tried {
+            taken: paired.taken,
+            inward: paired.inward,
+            row: paired.row,
+        };
     }
-    let asked = terms;
-    let same = trial;
-    let paired = try_paired(lows, highs, table, asked, same);
-    Tried {
-        taken: paired.taken,
-        inward: paired.inward,
-        row: paired.row,
-    }
+    try_value(lows, highs, table, question, terms, trial)
 }
 
 // How far from the share to the end plans give the member values, by trials.

@@ -17,10 +17,8 @@ use model::Question;
 use model::Share;
 use model::levels::clamp;
 use model::numbers::apart;
-ghost use mathlib.Core.Bool.{true, false};
-ghost use mathlib.Core.Logic.{_⊎_};
 ghost use mathlib.Core.Path.{_≡_};
-ghost use Prim.Native.Nat.{_≤_, _<_};
+ghost use Prim.Native.Nat.{_<_};
 ghost use Rattle.probe.specs.Inner.Probes.{LastWithin};
 ghost use Rattle.probe.specs.Inner.Distances.{mostPairs};
 ghost use Rattle.probe.specs.Inner.Pairs.{SpotBelow};
@@ -112,17 +110,6 @@ pub fn try_value(
         inward,
         row,
     }
-}
-
-// Whether pairs are still to be asked for: the other limits allow the value, and pairs are limited.
-pub fn asks_pairs(taken: bool, pairs: u64) -> bool
-    ensures { λ r. ⌜ (r ≡ true → pairs < mostPairs) ⌝ }
-    ensures { λ r. ⌜ (r ≡ false → (taken ≡ false) ⊎ (mostPairs ≤ pairs)) ⌝ }
-{
-    if !taken {
-        return false;
-    }
-    pairs < MOST_PAIRS
 }
 
 // Tries a value under all three limits, pairs last.

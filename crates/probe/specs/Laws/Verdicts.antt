@@ -2,7 +2,6 @@
 use Prim.Native.Nat.{ℕ, _-_, _*_, _≤_, _<_}
 use mathlib.Core.Bool.{Bool, true, false, _&&_}
 use mathlib.Core.List.{List}
-use mathlib.Core.Logic.{_⊎_, inl, inr}
 use mathlib.Core.Path.{_≡_, refl, sym, ap, _∙_}
 use native.Mathlib.Decide.{decLe}
 use native.Mathlib.Nat.{mul-le-mul}
@@ -21,7 +20,7 @@ use Rattle.model.specs.Laws.Levelled.{topped-within}
 use Rattle.model.specs.Laws.Lists.{within-at, within-length, ranges-at}
 use Rattle.model.specs.Laws.Pairs.{pairs-small}
 use Rattle.model.specs.Laws.Spread.{cauchy-schwarz, sumOf-bound}
-use Rattle.model.specs.Laws.Tests.{right-fails, clash}
+use Rattle.model.specs.Laws.Tests.{right-fails}
 use Rattle.probe.specs.declared.pairs.LevelSpot.{LevelSpot}
 use Rattle.probe.specs.declared.probing.Pinned.{Pinned}
 use Rattle.probe.specs.declared.rows.Row.{Row}
@@ -191,12 +190,11 @@ met-so third same holds told = ap (λ (b : Bool). b && third) (sym holds ∙ sam
 pub decided-as : (lows highs : List ℕ) {total total′ : ℕ} (limits : Limits) {taken : Bool} → total ≡ total′ → taken ≡ hasPlan lows highs total limits → taken ≡ hasPlan lows highs total′ limits
 decided-as lows highs limits same told = rw same at told
 
--- where pairs are not to be asked for, what the other limits say decides
+-- where pairs are not limited, what the other limits say decides
 pub judged-so : {lows highs : List ℕ} {total : ℕ} {limits : Limits} {terms : Terms} {low high v : ℕ} (taken : Bool) → Judged lows highs total limits terms low high v taken
-    → (taken ≡ false) ⊎ (mostPairs ≤ terms .pairs) → Decides lows highs total limits low high v taken
-judged-so true judged (inl fails) = absurd (clash refl fails)
-judged-so true judged (inr past) = judged .allowed refl past
-judged-so false judged told = judged .refused refl
+    → mostPairs ≤ terms .pairs → Decides lows highs total limits low high v taken
+judged-so true judged past = judged .allowed refl past
+judged-so false judged past = judged .refused refl
 
 -- where they are, what all limits say
 pub paired-so : {lows highs table : List ℕ} {total : ℕ} {limits : Limits} {terms : Terms} {low high v : ℕ} {taken : Bool} → Termed lows highs table total limits terms
