@@ -5,6 +5,7 @@ use crate::calls::met;
 use crate::independent::reader::{Group, Job};
 use crate::independent::{GREATEST_SHARE, RUNNING};
 use danivomel::{Deviation, Limits, Pairs, Spread};
+use std::cmp::Reverse;
 
 /// A range: low and high.
 pub type Range = (u64, u64);
@@ -73,12 +74,15 @@ pub fn plans(ranges: &[Range], marks: &[u64], total: u64, limits: Limits) -> Vec
     lists
 }
 
-/// The levelled shares, found without a level: of the lists with the least spread, the one that gives the first
-/// members most.
-pub fn levelled<'a>(lists: &'a [Vec<u64>], marks: &[u64], total: u64) -> Option<&'a Vec<u64>> {
+/// The levelled shares, found without a level: of the lists with the least spread, the one that gives most to the
+/// members with the highest highs, and among equal highs to the earlier.
+pub fn levelled<'a>(lists: &'a [Vec<u64>], ranges: &[Range], marks: &[u64], total: u64) -> Option<&'a Vec<u64>> {
     let spread_of = |list: &[u64]| spread(&running(list, marks), total);
     let least = lists.iter().map(|list| spread_of(list)).min()?;
-    lists.iter().rfind(|list| spread_of(list) == least)
+    let mut turns: Vec<usize> = (0..ranges.len()).collect();
+    turns.sort_by_key(|&member| (Reverse(ranges[member].1), member));
+    let in_turn = |list: &&Vec<u64>| turns.iter().map(|&member| list[member]).collect::<Vec<u64>>();
+    lists.iter().filter(|list| spread_of(list) == least).max_by_key(in_turn)
 }
 
 /// T(v): the sum of v moved into each range.

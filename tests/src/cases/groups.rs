@@ -1,8 +1,8 @@
-//! Random groups: small ones that can be enumerated, and large ones to the edges of every range; half of them with shut
-//! members.
+//! Random groups: small ones that can be enumerated, large ones to the edges of every range, and ones about a level at
+//! which most members grow; half of them with shut members.
 
-use crate::enumerate::{deviation, pairs, running, spread, Range};
-use crate::independent::level::{each_levelled, figures, has_shares};
+use crate::enumerate::{deviation, pairs, running, spread, total_at, Range};
+use crate::independent::level::{figures, fill_levelled, has_shares};
 use crate::independent::{
     GREATEST_DEVIATION, GREATEST_PAIRS, GREATEST_SHARE, GREATEST_SPREAD, MOST_UNITS, RUNNING, SHUT,
 };
@@ -110,8 +110,8 @@ fn near(random: &mut Random, ranges: &[Range]) -> u64 {
     random.between(lows, highs)
 }
 
-/// Limits at, just below or above the figures of some of the group's share lists; now and then a pairs limit of 0 or the
-/// greatest there is.
+/// Limits at, just below or above the figures of some of the group's share lists; now and then a pairs limit of 0 or
+/// the greatest there is.
 pub fn limits_near(random: &mut Random, lists: &[Vec<u64>], case: &GroupCase) -> Limits {
     if lists.is_empty() {
         return Limits { deviation: around(random, 4), spread: around(random, 9), pairs: around(random, 6) };
@@ -165,6 +165,41 @@ fn large_range(random: &mut Random, style: u64, centre: u64) -> Range {
     (first.min(second), first.max(second))
 }
 
+/// A group of 2 to `most` members about a level at which most of them grow. Its highs above the level are few, so that
+/// many are equal, and fewer copies are left over than members grow. No range reaches farther from the level than
+/// said.
+pub fn growing(random: &mut Random, most: usize, reach: u64) -> GroupCase {
+    let n = if random.once_in(3) { most } else { random.between(2, most as u64) as usize };
+    let any = random.between(0, GREATEST_SHARE - 1);
+    let level = random.one_of(&[0, GREATEST_SHARE - 1, any, any, any, any]);
+    let top = (level + reach).min(GREATEST_SHARE);
+    let different = random.one_of(&[1, 2, 5, n]);
+    let highs: Vec<u64> = (0..different).map(|_| random.between(level + 1, top)).collect();
+    let mut ranges: Vec<Range> = (0..n).map(|_| range_about(random, level, reach, &highs)).collect();
+    let marks = marks(random, n);
+    shut_ranges(random, &mut ranges, &marks);
+    let growing = ranges.iter().filter(|range| range.0 <= level && level < range.1).count() as u64;
+    let any = random.between(0, growing.max(1) - 1);
+    let left = random.one_of(&[0, growing.saturating_sub(1), growing / 2, any, any]);
+    GroupCase::of(&ranges, total_at(&ranges, level) + left).marked(&marks)
+}
+
+/// A range that holds the level and ends at one of some highs above it; now and then one below the level, or above it.
+fn range_about(random: &mut Random, level: u64, reach: u64, highs: &[u64]) -> Range {
+    let (foot, top) = (level.saturating_sub(reach), (level + reach).min(GREATEST_SHARE));
+    match random.between(0, 7) {
+        0 => {
+            let high = random.between(foot, level);
+            (random.between(foot, high), high)
+        }
+        1 => {
+            let low = random.between(level + 1, top);
+            (low, random.between(low, top))
+        }
+        _ => (random.between(foot, level), random.one_of(highs)),
+    }
+}
+
 /// Limits at, just below, or a little above the least figures of a large group; now and then a pairs limit of 0, the
 /// greatest there is, or one past it.
 pub fn limits_of(random: &mut Random, case: &GroupCase) -> Limits {
@@ -172,7 +207,7 @@ pub fn limits_of(random: &mut Random, case: &GroupCase) -> Limits {
         return Limits { deviation: around(random, 100), spread: around(random, 100), pairs: around(random, 100) };
     }
     let mut shares = [0; MOST_UNITS];
-    each_levelled(&case.lows, &case.highs, case.total, |member, share| shares[member] = share);
+    fill_levelled(&case.lows, &case.highs, case.total, &mut shares);
     let (deviation, spread, pairs) = figures(&shares[..case.lows.len()], &case.marks, case.total);
     Limits {
         deviation: stretched(random, deviation.0, GREATEST_DEVIATION),

@@ -15,7 +15,7 @@ pub fn level(lows: &[u64], highs: &[u64], marks: &[u64], total: u64, plan: &mut 
     if !has_shares(lows, highs, total) {
         return Err(Refusal { number: 11, place: 0 });
     }
-    let level = each_levelled(lows, highs, total, |member, share| plan[member] = share);
+    let level = fill_levelled(lows, highs, total, plan);
     let (deviation, spread, pairs) = figures(&plan[..lows.len()], marks, total);
     Ok(Levelled { level, deviation, spread, pairs })
 }
@@ -102,16 +102,45 @@ pub fn additions(lows: &[u64], highs: &[u64], total: u64) -> u32 {
     last_that_holds(0, GREATEST_SHARE + 1, |v| total_at(lows, highs, v) <= total).1 + 1
 }
 
-/// Gives each member's levelled share in order, a shut one's 0 too, and answers the level.
-pub fn each_levelled(lows: &[u64], highs: &[u64], total: u64, mut give: impl FnMut(usize, u64)) -> u64 {
+/// Whether a member can take one of the copies left over at a level: its low is at most the level, and its high above
+/// it.
+pub fn grows(low: u64, high: u64, level: u64) -> bool {
+    low <= level && level < high
+}
+
+/// Writes each member's levelled share to the plan, a shut one's 0 too, and answers the level. The copies left over go
+/// one each to the growing members with the most high − level first, and among equals to the earlier.
+pub fn fill_levelled(lows: &[u64], highs: &[u64], total: u64, plan: &mut [u64]) -> u64 {
     let level = level_of(lows, highs, total);
-    let mut left = total - total_at(lows, highs, level);
+    let left = total - total_at(lows, highs, level);
+    let unserved = first_unserved(lows, highs, level, left as usize, plan);
     for (member, (&low, &high)) in lows.iter().zip(highs).enumerate() {
-        let more = u64::from(left > 0 && low <= level && level < high);
-        give(member, clamp(low, high, level) + more);
-        left -= more;
+        let more = grows(low, high, level) && turn_of(high - level, member) < unserved;
+        plan[member] = clamp(low, high, level) + u64::from(more);
     }
     level
+}
+
+/// A number that is the less the earlier a member takes a copy: by its headroom, and among equals by its place.
+fn turn_of(headroom: u64, member: usize) -> u64 {
+    (GREATEST_SHARE - headroom) * MOST_UNITS as u64 + member as u64
+}
+
+/// The turn of the first growing member that gets none of so many copies; 0 where there are none. The room is for the
+/// turns.
+fn first_unserved(lows: &[u64], highs: &[u64], level: u64, left: usize, room: &mut [u64]) -> u64 {
+    if left == 0 {
+        return 0;
+    }
+    let mut growing = 0;
+    for (member, (&low, &high)) in lows.iter().zip(highs).enumerate() {
+        if grows(low, high, level) {
+            room[growing] = turn_of(high - level, member);
+            growing += 1;
+        }
+    }
+    // more members grow than copies are left, since one level higher takes more than the total
+    *room[..growing].select_nth_unstable(left).1
 }
 
 /// n of the figures: the number of members not shut.

@@ -1,8 +1,8 @@
 //! Narrowing one group under its limits: each end is looked for by levelling the group with one member pinned.
 
 use super::level::{
-    check_numbers, check_order, check_shape, check_top, count_running, deviation_part, each_levelled, has_shares,
-    pairs_of,
+    check_numbers, check_order, check_shape, check_top, clamp, count_running, deviation_part, grows, has_shares,
+    level_of, pairs_of, total_at,
 };
 use super::{GREATEST_DEVIATION, GREATEST_PAIRS, GREATEST_SPREAD, GREATEST_TOTAL, MOST_UNITS, RUNNING};
 use crate::calls::met;
@@ -51,7 +51,7 @@ pub fn narrow_members(lows: &mut [u64], highs: &mut [u64], terms: Terms) -> Resu
         return Err(12);
     }
     let mut plan = [0; MOST_UNITS];
-    each_levelled(lows, highs, terms.total, |member, share| plan[member] = share);
+    each_even(lows, highs, terms.total, |member, share| plan[member] = share);
     for member in 0..lows.len() {
         lows[member] = least_taken(lows, highs, terms, member, plan[member]);
         highs[member] = greatest_taken(lows, highs, terms, member, plan[member]);
@@ -59,7 +59,19 @@ pub fn narrow_members(lows: &mut [u64], highs: &mut [u64], terms: Terms) -> Resu
     Ok(())
 }
 
-/// Whether the levelled shares are within the limits, by the figures of the running members.
+/// Gives each member's share in order, as even as the levelled ones: the copies left over go to the first growing
+/// members, without asking for headroom, since every way to hand them out has the same figures.
+fn each_even(lows: &[u64], highs: &[u64], total: u64, mut give: impl FnMut(usize, u64)) {
+    let level = level_of(lows, highs, total);
+    let mut left = total - total_at(lows, highs, level);
+    for (member, (&low, &high)) in lows.iter().zip(highs).enumerate() {
+        let more = u64::from(left > 0 && grows(low, high, level));
+        give(member, clamp(low, high, level) + more);
+        left -= more;
+    }
+}
+
+/// Whether the most even shares are within the limits, by the figures of the running members.
 fn limits_met(lows: &[u64], highs: &[u64], terms: Terms) -> bool {
     let Terms { marks, total, limits } = terms;
     let n = count_running(marks);
@@ -68,7 +80,7 @@ fn limits_met(lows: &[u64], highs: &[u64], terms: Terms) -> bool {
     // the limit any takes every figure, so that the shares need not be sorted for it
     let asks_pairs = limits.pairs != Limit::Any;
     let mut running = Vec::with_capacity(if asks_pairs { n as usize } else { 0 });
-    each_levelled(lows, highs, total, |member, share| {
+    each_even(lows, highs, total, |member, share| {
         if marks[member] == RUNNING {
             deviation += deviation_part(n, share, total);
             squares += share * share;
@@ -91,7 +103,7 @@ pub fn taken(lows: &mut [u64], highs: &mut [u64], terms: Terms, member: usize, v
     found
 }
 
-/// The member's least value that some plan takes, where its levelled share is such a value.
+/// The member's least value that some plan takes, where this share is such a value.
 fn least_taken(lows: &mut [u64], highs: &mut [u64], terms: Terms, member: usize, share: u64) -> u64 {
     let mut untaken = lows[member];
     if taken(lows, highs, terms, member, untaken) {
@@ -109,7 +121,7 @@ fn least_taken(lows: &mut [u64], highs: &mut [u64], terms: Terms, member: usize,
     found
 }
 
-/// The member's greatest value that some plan takes, where its levelled share is such a value.
+/// The member's greatest value that some plan takes, where this share is such a value.
 fn greatest_taken(lows: &mut [u64], highs: &mut [u64], terms: Terms, member: usize, share: u64) -> u64 {
     let mut untaken = highs[member];
     if taken(lows, highs, terms, member, untaken) {

@@ -4,7 +4,7 @@ use super::fillers;
 use crate::calls::Level;
 use crate::cases::groups::{large, small, GroupCase};
 use crate::check::{Checks, Topic};
-use crate::enumerate::{self, above, deviation, deviation_bound, pairs, running, share_lists, spread, total_at};
+use crate::enumerate::{self, above, deviation, deviation_bound, pairs, running, share_lists, spread, total_at, Range};
 use crate::independent::{self, GREATEST_SHARE, MOST_UNITS};
 use danivomel::{Deviation, Levelled, Pairs, Refusal, Spread};
 
@@ -68,7 +68,7 @@ fn known(topic: &mut Topic, level: Level) {
     let ten = [(0, 1); 10];
     check(topic, level, &GroupCase::of(&ten, 5), 2, shares(0, [50, 25, 25], &[1, 1, 1, 1, 1, 0, 0, 0, 0, 0]));
     let three = [(1, 3), (2, 6), (3, 9)];
-    check(topic, level, &GroupCase::of(&three, 10), 0, shares(3, [4, 2, 2], &[3, 4, 3]));
+    check(topic, level, &GroupCase::of(&three, 10), 0, shares(3, [4, 2, 2], &[3, 3, 4]));
     check(topic, level, &GroupCase::of(&three, 9), 0, shares(3, [0, 0, 0], &[3, 3, 3]));
     check(topic, level, &GroupCase::of(&three, 6), 0, shares(1, [6, 6, 4], &[1, 2, 3]));
     check(topic, level, &GroupCase::of(&three, 18), 0, shares(1_000_000, [18, 54, 12], &[3, 6, 9]));
@@ -81,7 +81,7 @@ fn known(topic: &mut Topic, level: Level) {
 
 /// What enumeration says of a levelling.
 fn by_enumeration(case: &GroupCase, lists: &[Vec<u64>]) -> Expected {
-    let plan = match enumerate::levelled(lists, &case.marks, case.total) {
+    let plan = match enumerate::levelled(lists, &case.ranges(), &case.marks, case.total) {
         Some(plan) => plan,
         None => return refused(11, 0),
     };
@@ -114,8 +114,8 @@ fn enumerated(topic: &mut Topic, level: Level) {
     }
 }
 
-/// No share list has a lesser deviation, lesser pair differences, or less in total above any t; all three are the running
-/// members'.
+/// No share list has a lesser deviation, lesser pair differences, or less in total above any t; all three are the
+/// running members'.
 fn least_of_all(topic: &mut Topic, case: &GroupCase, lists: &[Vec<u64>], found: &Levelled, plan: &[u64]) {
     let lists: Vec<Vec<u64>> = lists.iter().map(|list| running(list, &case.marks)).collect();
     let least = lists.iter().map(|list| deviation(list, case.total)).min();
@@ -196,17 +196,18 @@ fn laws(topic: &mut Topic, level: Level) {
     }
 }
 
-/// The level is the greatest, the remainder goes to the first members that can grow, the figures are the shares' own.
+/// The level is the greatest, a member takes one of the copies left over where fewer growing members than these come
+/// ahead of it, and the figures are the shares' own.
 fn levelled_by_law(topic: &mut Topic, case: &GroupCase, levelled: Levelled, plan: &[u64]) {
     let (ranges, v) = (case.ranges(), levelled.level);
     let greatest = v == GREATEST_SHARE || (v < GREATEST_SHARE && total_at(&ranges, v + 1) > case.total);
     topic.holds(case, "the greatest level", total_at(&ranges, v) <= case.total && greatest);
     let left = case.total - total_at(&ranges, v);
-    let mut growing = 0;
+    let grows = |&(low, high): &Range| low <= v && v < high;
     for (member, &(low, high)) in ranges.iter().enumerate() {
-        let grows = low <= v && v < high;
-        let more = u64::from(grows && growing < left);
-        growing += u64::from(grows);
+        let is_ahead = |(other, range): &(usize, &Range)| range.1 > high || (range.1 == high && *other < member);
+        let ahead = ranges.iter().enumerate().filter(is_ahead).filter(|(_, range)| grows(range)).count() as u64;
+        let more = u64::from(grows(&(low, high)) && ahead < left);
         topic.same(case, "share", plan[member], v.min(high).max(low) + more);
     }
     topic.same(case, "total", plan.iter().sum::<u64>(), case.total);

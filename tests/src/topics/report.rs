@@ -92,7 +92,7 @@ fn by_enumeration(job: &Job, passes: u64, table: &[Range]) -> String {
         let ranges = enumerate::of_members(group, table);
         let marks = enumerate::of_members(group, &job.marks);
         let lists = enumerate::share_lists(&ranges, group.total);
-        let plan = enumerate::levelled(&lists, &marks, group.total).expect("a settled group has a plan");
+        let plan = enumerate::levelled(&lists, &ranges, &marks, group.total).expect("a settled group has a plan");
         let level = enumerate::level(&ranges, group.total).expect("a settled group has a plan");
         let running = enumerate::running(plan, &marks);
         let deviation = enumerate::deviation(&running, group.total).0;
