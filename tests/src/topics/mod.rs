@@ -7,6 +7,7 @@ pub mod calls;
 pub mod command;
 pub mod faults;
 pub mod handed;
+pub mod headroom;
 pub mod installed;
 pub mod judge;
 pub mod level;
@@ -24,6 +25,7 @@ pub mod shut;
 pub mod sources;
 pub mod tables;
 pub mod transcripts;
+pub mod ways;
 pub mod write;
 
 use danivomel::Range;
