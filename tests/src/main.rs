@@ -56,8 +56,7 @@ fn independent_planner(checks: &mut Checks) {
     topics::lists::run_narrow(checks, who, independent::narrow);
     topics::marks::run(checks, who, independent::level, independent::narrow);
     topics::pairs::run_lists(checks, who, independent::level, independent::narrow);
-    topics::headroom::run_lists(checks, who, independent::level);
-    topics::ways::run(checks, who, independent::level, independent::narrow);
+    topics::headroom::run_lists(checks, who, independent::level, independent::narrow);
     topics::judge::run(checks);
     topics::read::run(checks, who, independent::read);
     topics::lines::run(checks, who, independent::read);
@@ -93,9 +92,8 @@ fn proved_planner(checks: &mut Checks) {
     topics::lists::run_narrow(checks, who, danivomel::narrow);
     topics::marks::run(checks, who, danivomel::level, danivomel::narrow);
     topics::pairs::run_lists(checks, who, danivomel::level, danivomel::narrow);
-    topics::headroom::run_lists(checks, who, danivomel::level);
+    topics::headroom::run_lists(checks, who, danivomel::level, danivomel::narrow);
     topics::headroom::compare(checks, who, danivomel::level);
-    topics::ways::run(checks, who, danivomel::level, danivomel::narrow);
     topics::read::run(checks, who, danivomel::read);
     topics::read::compare(checks, who, danivomel::read);
     topics::lines::run(checks, who, danivomel::read);

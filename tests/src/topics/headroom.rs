@@ -1,10 +1,10 @@
 //! Copies left over go to the members with the most headroom: 02's sentence asked of the shares, known shares, and that
 //! nothing but shares has moved by it.
 
-use super::fillers;
 use super::read::Shown;
 use super::shut::reported;
-use crate::calls::{table, Level, OnTexts};
+use super::{fillers, ways};
+use crate::calls::{table, Level, Narrow, OnTexts};
 use crate::cases::groups::{growing, large, small, GroupCase};
 use crate::cases::jobs::{other_table, print_job, sound, MIDDLE, TINY, WIDE};
 use crate::check::{Checks, Topic};
@@ -17,10 +17,11 @@ use danivomel::Levelled;
 use std::fmt::Write;
 
 /// Tries a planner's shares of one group.
-pub fn run_lists(checks: &mut Checks, who: &str, level: Level) {
+pub fn run_lists(checks: &mut Checks, who: &str, level: Level, narrow: Narrow) {
     checks.topic("headroom, 02's sentence", who, |topic| sentence(topic, level));
     checks.topic("headroom, level and figures as they were", who, |topic| figures_before(topic, level));
     checks.topic("headroom, edges", who, |topic| edges(topic, level));
+    ways::run(checks, who, level, narrow);
 }
 
 /// Tries a planner's reports.
