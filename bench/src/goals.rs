@@ -9,6 +9,7 @@ use crate::work::{narrow, pairs};
 /// The times that goals are about.
 pub struct Results {
     pub level: Vec<Times>,
+    pub headroom: Vec<(usize, Times)>,
     pub narrow: Vec<narrow::Timed>,
     pub unkind: Vec<(usize, Times)>,
     pub pairs: Vec<pairs::Timed>,
@@ -28,7 +29,10 @@ struct Goal {
 /// The goals as a table.
 pub fn run(results: &Results) -> Table {
     let mut table = Table::new("goals", &["goal", "figure", "bound", "met"]);
-    for Goal { what, figure, most, bound } in goals(results).into_iter().chain(pairs_goals(&results.pairs)) {
+    let mut all = goals(results);
+    all.extend(pairs_goals(&results.pairs));
+    all.push(headroom_goal(&results.headroom));
+    for Goal { what, figure, most, bound } in all {
         let figure = figure.expect("every goal is measured");
         let met = if most { figure <= bound } else { figure >= bound };
         table.add(vec![
@@ -125,6 +129,14 @@ fn pairs_goals(pairs: &[pairs::Timed]) -> Vec<Goal> {
             1.35,
         ),
     ]
+}
+
+/// The goal of levelling with copies left over.
+fn headroom_goal(headroom: &[(usize, Times)]) -> Goal {
+    let what =
+        "levelling 8 members and more with a copy left over for half, planner / plain Rust, greatest of all rows";
+    let many = headroom.iter().filter(|(n, _)| *n >= 8).map(|(_, times)| times);
+    goal(what, worst(many, BISECTION), true, 1.2)
 }
 
 /// A goal.

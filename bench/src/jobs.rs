@@ -6,7 +6,7 @@ use danivomel_tests::cases::jobs::print_job;
 use danivomel_tests::independent::level::{clamp, figures};
 use danivomel_tests::independent::reader::{Group, Job};
 use danivomel_tests::independent::{
-    self, GREATEST_DEVIATION, GREATEST_PAIRS, GREATEST_SPREAD, MOST_UNITS, RUNNING, SHUT,
+    self, GREATEST_DEVIATION, GREATEST_PAIRS, GREATEST_SHARE, GREATEST_SPREAD, MOST_UNITS, RUNNING, SHUT,
 };
 use danivomel_tests::random::Random;
 
@@ -96,6 +96,35 @@ pub fn paired_groups_of(n: usize, greatest: u64, tightness: Tightness, pairs: Ti
 /// How many groups of a size are timed.
 fn count_of(n: usize) -> usize {
     (256 / n).clamp(2, 16)
+}
+
+/// What the highs of a group are like.
+#[derive(Clone, Copy, Debug, PartialEq, Eq)]
+pub enum Highs {
+    Different,
+    Equal,
+}
+
+/// Some groups of one size all of whose members grow at the level, with copies left over there for half of them.
+pub fn growing_groups(n: usize, highs: Highs) -> Vec<GroupCase> {
+    let mut random = Random::new(SEED + 40_000 + n as u64);
+    (0..count_of(n)).map(|_| growing_group(&mut random, n, highs)).collect()
+}
+
+/// One such group: its level lies in the middle of the shares, its lows at most there and its highs above, in random order.
+fn growing_group(random: &mut Random, n: usize, highs: Highs) -> GroupCase {
+    let level = GREATEST_SHARE / 2;
+    let step = level / n as u64;
+    let mut ranges = vec![];
+    for member in 0..n as u64 {
+        let high = match highs {
+            Highs::Different => level + member * step + random.between(1, step),
+            Highs::Equal => level + level / 2,
+        };
+        ranges.push((random.between(0, level), high));
+    }
+    random.shuffle(&mut ranges);
+    GroupCase::of(&ranges, n as u64 * level + n as u64 / 2)
 }
 
 /// Such groups with a shut member between each two running ones and the next two: a third of n members is shut.

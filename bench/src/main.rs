@@ -45,7 +45,7 @@ fn run() -> io::Result<()> {
         println!("this machine is busy: times mean little, ratios a little more");
     }
     let (mut tables, results, rows) = measured(start);
-    tables.push(goals::run(&results));
+    tables.push(shown(start, "the goals", || goals::run(&results)));
     let run = run_line(start, &load);
     println!("{run}");
     if timing::is_trial() {
@@ -60,42 +60,32 @@ fn run() -> io::Result<()> {
 
 /// Does all work, and shows where it is.
 fn measured(start: Instant) -> (Vec<Table>, Results, Vec<Row>) {
-    let step = |name: &str| println!("[{:>4.0} s] {name}", start.elapsed().as_secs_f64());
-    step("levelling one group");
-    let (levels, level) = work::level::run();
-    step("narrowing one group");
-    let (narrows, narrow) = work::narrow::run();
-    step("growth of narrowing with the members");
-    let growth = charts::growth(&narrow);
-    step("narrowing one group of shares to 1,000,000");
-    let wide = work::narrow::run_wide();
-    step("narrowing one unkind group");
-    let (unkinds, unkind) = work::unkind::run();
-    step("narrowing one group with a pairs limit");
-    let (paireds, pairs) = work::pairs::run();
-    step("reading");
-    let (reads, read) = work::read::run();
-    step("settling");
-    let (settles, settle) = work::settle::run();
-    step("reporting");
-    let reports = work::report::run();
-    step("writing");
-    let (writes, write) = work::write::run();
-    step("a third of the members shut");
-    let shut = work::shut::run();
-    step("what Gecode leaves");
-    let filtering = work::filtering::run();
-    step("what Gecode leaves under a pairs limit");
-    let pairs_left = work::pairs::run_left();
-    step("what Gecode does not refuse");
-    let refusals = work::filtering::run_refusals();
-    step("the experiment of 001");
-    let (paper, rows) = work::paper::run();
-    step("the goals");
-    let mut tables = vec![levels, narrows, growth, wide, unkinds, paireds, reads, settles, reports, writes, shut];
-    tables.extend([filtering, pairs_left, refusals]);
+    let (levels, level) = shown(start, "levelling one group", work::level::run);
+    let (headrooms, headroom) = shown(start, "levelling one group with copies left over", work::headroom::run);
+    let (narrows, narrow) = shown(start, "narrowing one group", work::narrow::run);
+    let growth = shown(start, "growth of narrowing with the members", || charts::growth(&narrow));
+    let wide = shown(start, "narrowing one group of shares to 1,000,000", work::narrow::run_wide);
+    let (unkinds, unkind) = shown(start, "narrowing one unkind group", work::unkind::run);
+    let (paireds, pairs) = shown(start, "narrowing one group with a pairs limit", work::pairs::run);
+    let (reads, read) = shown(start, "reading", work::read::run);
+    let (settles, settle) = shown(start, "settling", work::settle::run);
+    let reports = shown(start, "reporting", work::report::run);
+    let (writes, write) = shown(start, "writing", work::write::run);
+    let shut = shown(start, "a third of the members shut", work::shut::run);
+    let filtering = shown(start, "what Gecode leaves", work::filtering::run);
+    let pairs_left = shown(start, "what Gecode leaves under a pairs limit", work::pairs::run_left);
+    let refusals = shown(start, "what Gecode does not refuse", work::filtering::run_refusals);
+    let (paper, rows) = shown(start, "the experiment of 001", work::paper::run);
+    let mut tables = vec![levels, headrooms, narrows, growth, wide, unkinds, paireds];
+    tables.extend([reads, settles, reports, writes, shut, filtering, pairs_left, refusals]);
     tables.extend(paper);
-    (tables, Results { level, narrow, unkind, pairs, read, settle, write }, rows)
+    (tables, Results { level, headroom, narrow, unkind, pairs, read, settle, write }, rows)
+}
+
+/// Says what is done now, and does it.
+fn shown<T>(start: Instant, name: &str, work: impl FnOnce() -> T) -> T {
+    println!("[{:>4.0} s] {name}", start.elapsed().as_secs_f64());
+    work()
 }
 
 /// What there is to know about a run.

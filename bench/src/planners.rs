@@ -13,6 +13,8 @@ pub const BISECTION: &str = "plain Rust, bisection";
 pub const ROWS: &str = "plain Rust, rows";
 /// The proved planner on the running members alone, where others have shut members too.
 pub const ALONE: &str = "planner, running members alone";
+/// The proved planner on the same groups with a total that leaves no copy over.
+pub const NONE_LEFT: &str = "planner, no copy left over";
 /// The proved planner on the same groups without their pairs limit.
 pub const WITHOUT: &str = "planner, without the pairs limit";
 /// Plain Rust of the same way likewise.

@@ -1,6 +1,7 @@
 //! The work that is measured, a file for each kind.
 
 pub mod filtering;
+pub mod headroom;
 pub mod level;
 pub mod narrow;
 pub mod pairs;
