@@ -80,7 +80,8 @@ class Range(NamedTuple):
 
 class Levelled(NamedTuple):
     """What levelling answers. Each member takes the level, or its own low or high where the level is outside; copies
-    left over go one each to the first members that can take one more. Where all are at their highs it is 1,000,000.
+    left over go one each to the members with the most room up to their high (high - level), among equals to the
+    earlier. Where all are at their highs the level is 1,000,000.
     Of n running members the deviation is the sum of |n * share - total|, the spread n * (sum of squared shares) - total
     * total, and pairs the sum of larger less smaller share over all pairs, each once; all are 0 where none runs."""
     shares: List[int]
@@ -198,9 +199,10 @@ def _settled(name: str, text: Text, table: Optional[Table], *buffer: Any) -> Any
 
 def level(lows: Iterable[int], highs: Iterable[int], marks: Optional[Iterable[int]], total: int) -> Levelled:
     """Levels a group: answers the most even shares within the lows and highs that add up to the total, with the level
-    and the figures. No other such shares have a lesser deviation, spread or pair differences. The marks have a number
-    for each member: RUNNING, or SHUT for a member that is off the run, whose range is 0 to 0; None says that all run.
-    A shut member's share is 0, and the figures leave it out.
+    and the figures. No other such shares have a lesser deviation, spread or pair differences. Copies left over go one
+    each to the members with the most room up to their high (high - level), among equals to the earlier. The marks have
+    a number for each member: RUNNING, or SHUT for a member that is off the run, whose range is 0 to 0; None says that
+    all run. A shut member's share is 0, and the figures leave it out.
 
     Refused in this order: 1 for lows, highs and marks empty, of unequal length or over 256; 4 for a low, high or mark
     of a unit beyond its range, place the unit, then for the total, place 0; 7 for a low above its high or a shut
@@ -208,6 +210,8 @@ def level(lows: Iterable[int], highs: Iterable[int], marks: Optional[Iterable[in
 
     >>> level([8, 4, 1, 3], [10, 7, 5, 4], None, 20)
     Levelled(shares=[8, 4, 4, 4], level=4, deviation=24, spread=48, pairs=12)
+    >>> level([1, 2, 3], [3, 6, 9], None, 10).shares
+    [3, 3, 4]
     >>> level([0, 0, 0], [9, 0, 9], [RUNNING, SHUT, RUNNING], 10)
     Levelled(shares=[5, 0, 5], level=5, deviation=0, spread=0, pairs=0)
     """

@@ -111,6 +111,8 @@ class Groups(Calls):
         self.assertEqual(level(LOWS, HIGHS, None, 20), Levelled([8, 4, 4, 4], 4, 24, 48, 12))
         self.assertEqual(level(iter(LOWS), tuple(HIGHS), (RUNNING for _ in LOWS), 20).shares, [8, 4, 4, 4])
         self.assertEqual(level([3], [3], [RUNNING], 3), Levelled([3], 1_000_000, 0, 0, 0))
+        self.assertEqual(level([1, 2, 3], [3, 6, 9], None, 10), Levelled([3, 3, 4], 3, 4, 2, 2))
+        self.assertEqual(level([0] * 4, [8, 9, 0, 9], [RUNNING, RUNNING, SHUT, RUNNING], 10).shares, [3, 4, 0, 3])
         self.assertEqual(sum(level([0] * 256, [1_000_000] * 256, None, 256_000_000).shares), 256_000_000)
 
     def test_known_ranges(self):

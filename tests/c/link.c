@@ -34,6 +34,23 @@ static int known_share(void) {
     return faults + same("plan after a refusal", plan[0], 8);
 }
 
+/* [1,3] [2,6] [3,9] with total 10 gives 3 3 4: the copy left over goes to the member with the most headroom. */
+static int known_headroom(void) {
+    const uint64_t lows[3] = {1, 2, 3};
+    const uint64_t highs[3] = {3, 6, 9};
+    const uint64_t marks[3] = {0, 0, 0};
+    const uint64_t shares[3] = {3, 3, 4};
+    uint64_t plan[3] = {0, 0, 0};
+    danivomel_levelled found = danivomel_level(lows, 3, highs, 3, marks, 3, 10, plan, 3);
+    int faults = same("refusal", found.refusal.number, DANIVOMEL_DONE) + same("level", found.level, 3);
+    faults += same("deviation", found.deviation.value, 4) + same("spread", found.spread.value, 2);
+    faults += same("pairs", found.pairs.value, 2);
+    for (int i = 0; i < 3; i++) {
+        faults += same("share", plan[i], shares[i]);
+    }
+    return faults;
+}
+
 /* The lows and highs of four members. */
 static int same_ranges(const uint64_t *lows, const uint64_t *highs, const uint64_t *left) {
     int faults = 0;
@@ -199,7 +216,7 @@ static int refused_texts(void) {
 }
 
 int main(void) {
-    int faults = known_share() + known_ranges() + known_pairs() + shut_share() + shut_ranges();
+    int faults = known_share() + known_headroom() + known_ranges() + known_pairs() + shut_share() + shut_ranges();
     faults += known_job() + known_text() + refused_texts();
     printf("c: %s\n", faults == 0 ? "linked, known answers hold" : "FAILED");
     return faults != 0;

@@ -58,7 +58,8 @@ pub struct Range {
 #[derive(Clone, Copy, Debug, PartialEq, Eq)]
 pub struct Levelled {
     /// Each member takes this share, or its own low or high where the level is outside; copies left over go one each to
-    /// the first members that can take one more. 1,000,000 where all members are at their highs.
+    /// the members with the most room up to their high (high − level), among equals to the earlier. 1,000,000 where all
+    /// members are at their highs.
     pub level: u64,
     /// The shares' deviation, the least that can be had.
     pub deviation: Deviation,

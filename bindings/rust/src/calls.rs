@@ -16,7 +16,8 @@ fn accepted(refusal: Refusal) -> Result<(), Refusal> {
 
 /// Levels a group: writes the most even shares within the lows and highs that add up to the total to the first numbers
 /// of the plan, and answers the level and the figures. No other such shares have a lesser deviation, spread or pair
-/// differences.
+/// differences. Copies left over at the level go one each to the members with the most room up to their high (high −
+/// level), among equals to the earlier.
 ///
 /// The marks have a number for each member: [`RUNNING`](crate::RUNNING), or [`SHUT`](crate::SHUT) for a member that is
 /// off the run, whose range is 0 to 0. A shut member's share is 0, and the figures leave it out.
@@ -36,6 +37,9 @@ fn accepted(refusal: Refusal) -> Result<(), Refusal> {
 /// assert_eq!(levelled.level, 4);
 /// assert_eq!((levelled.deviation, levelled.spread, levelled.pairs), (Deviation(24), Spread(48), Pairs(12)));
 /// assert_eq!(level(&[8, 4], &[10, 7], &[RUNNING; 2], 18, &mut plan).unwrap_err().number, 11);
+///
+/// level(&[1, 2, 3], &[3, 6, 9], &[RUNNING; 3], 10, &mut plan).unwrap();
+/// assert_eq!(plan[..3], [3, 3, 4]);
 ///
 /// let even = level(&[0; 3], &[9, 0, 9], &[RUNNING, SHUT, RUNNING], 10, &mut plan).unwrap();
 /// assert_eq!((&plan[..3], even.deviation), (&[5, 0, 5][..], Deviation(0)));

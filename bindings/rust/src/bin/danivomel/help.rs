@@ -87,9 +87,11 @@ danivomel level --total COPIES UNIT..: the most even share of one group, as a gr
 deviation, spread, pair differences and shares.
 
     danivomel level --total 20 8..10 4..7 1..5 3..4
+    danivomel level --total 10 1..3 2..6 3..9
 
 COPIES is the group's total. A UNIT is LOW..HIGH, the fewest and the most copies that it can take, or shut for one that is
-off the run.
+off the run. Each unit takes the level, or its own low or high where the level is outside; copies left over go one each to
+the units with the most room up to their high (high - level), among equals to the earlier.
 ";
 
 const NARROW: &str = "\
