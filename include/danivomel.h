@@ -155,8 +155,8 @@ typedef struct {
  * 256,000,000), written to the plan. No other such shares have a lesser deviation, spread or pair differences. Each
  * member takes the level, or its own low or high where the level is outside; copies left over go one each to the members
  * with the most room up to their high (high - level), among equals to the earlier. A plan may be longer than the group.
- * The marks are a number for each member, DANIVOMEL_RUNNING or DANIVOMEL_SHUT; a shut
- * member's low and high are 0, and so is its share.
+ * The marks are a number for each member, DANIVOMEL_RUNNING or DANIVOMEL_SHUT; a shut member's low and high are 0, and
+ * so is its share.
  * Refuses, in this order: 1 for lows, highs and marks empty, of unequal length or over 256, or a plan shorter than they
  * are; 4 for low, high and mark of the units in order; 4 for the total, place 0; 7 for the units in order; 11, place 0.
  */
