@@ -1,5 +1,6 @@
 -- What only inner contracts use, a file for each topic.
 pub mod Searching
+pub mod Headroom
 pub mod Shared
 pub mod Units
 pub mod Members

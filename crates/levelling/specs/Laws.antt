@@ -5,6 +5,7 @@ pub mod Findings
 pub mod First
 pub mod Levelling
 pub mod Promises
+pub mod Before
 pub mod Shared
 pub mod Summing
 pub mod Units

@@ -4,6 +4,7 @@ pub mod First
 pub mod Findings
 pub mod Additions
 pub mod Levelling
+pub mod Before
 pub mod Answers
 pub mod Promises
 pub mod Inner

@@ -1,28 +1,33 @@
 // The shares of a group at its level.
+use crate::headroom::bar_for;
+use crate::headroom::take_copy;
 use model::levels::clamp;
-use model::levels::extra;
 ghost use mathlib.Core.Path.{_≡_};
 ghost use Prim.Native.Nat.{_≤_};
 ghost use mathlib.Core.List.{_++_};
 ghost use lib.ListN.{length, drop};
-ghost use Rattle.model.specs.Levels.{topped};
-ghost use Rattle.model.specs.Sound.{SoundRanges};
+ghost use Rattle.model.specs.Levels.{byHeadroom};
 ghost use Rattle.levelling.specs.Additions.{KnownLevel};
+ghost use Rattle.levelling.specs.Inner.Headroom.{HasTakers};
 
-// Writes the shares at the level, which has to be known, with the copies left over handed out, over the first numbers of
-// a plan.
+// Writes the shares at the level, which has to be known, with the copies left over handed out by headroom, over the first
+// numbers of a plan.
 pub fn fill_plan(lows: &[u64], highs: &[u64], v: u64, left: u64, plan: &mut [u64])
-    requires { ⌜ SoundRanges (now lows) (now highs) ⌝ }
+    requires { ⌜ HasTakers (now lows) (now highs) v left ⌝ }
     requires { ⌜ length (now lows) ≤ length (now plan) ⌝ }
     requires { ⌜ KnownLevel (now lows) (now highs) v left ⌝ }
-    ensures { λ _. ⌜ now (plan .exit) ≡ topped (now (lows .entry)) (now (highs .entry)) v left ++ drop (length (now (lows .entry))) (now (plan .entry)) ⌝ }
+    ensures { λ _. ⌜ now (plan .exit) ≡ byHeadroom (now (lows .entry)) (now (highs .entry)) v left ++ drop (length (now (lows .entry))) (now (plan .entry)) ⌝ }
 {
-    let mut rest = left;
+    let count = lows.len();
+    // What the plan holds is room to work in until the shares are written.
+    let found = bar_for(lows, highs, v, left, &mut plan[..count]);
+    let bar = found.high;
+    let mut rest = found.rest;
     let mut i: usize = 0;
     while i < lows.len() {
-        let more = extra(lows[i], highs[i], v, rest);
-        plan[i] = clamp(lows[i], highs[i], v) + more;
-        rest -= more;
+        let taken = take_copy(lows[i], highs[i], v, bar, rest);
+        plan[i] = clamp(lows[i], highs[i], v) + taken.more;
+        rest = taken.rest;
         i += 1;
     }
 }

@@ -80,7 +80,7 @@ known =
     ∷ shares ten (1 ∷ 1 ∷ 1 ∷ 1 ∷ 1 ∷ 0 ∷ 0 ∷ 0 ∷ 0 ∷ 0 ∷ []) 50 25 25
     ∷ refuses ten (AtMost 30) Any Any 12
     ∷ refuses ten (AtMost 50) Any Any 0
-    ∷ shares (three 10) (3 ∷ 4 ∷ 3 ∷ []) 4 2 2
+    ∷ shares (three 10) (3 ∷ 3 ∷ 4 ∷ []) 4 2 2
     ∷ shares (three 9) (3 ∷ 3 ∷ 3 ∷ []) 0 0 0
     ∷ shares (three 6) (1 ∷ 2 ∷ 3 ∷ []) 6 6 4
     ∷ shares (three 18) (3 ∷ 6 ∷ 9 ∷ []) 18 54 12

@@ -4,10 +4,13 @@ pub mod Tests
 pub mod Shares
 pub mod Lists
 pub mod Writing
-pub mod Walk
 pub mod Transfer
 pub mod Least
 pub mod Level
+pub mod Headroom
+pub mod Bars
+pub mod HeadroomFirst
+pub mod Walk
 pub mod Levelled
 pub mod Spread
 pub mod Deviation
@@ -15,6 +18,7 @@ pub mod Pairs
 pub mod Plans
 pub mod Search
 pub mod Pinned
+pub mod Ways
 pub mod Narrowing
 pub mod Keeping
 pub mod Ends

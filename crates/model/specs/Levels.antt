@@ -34,18 +34,30 @@ level lows highs total = levelBelow 20 lows highs total 0 (suc greatestShare)
 abbrev pub growth : ℕ → ℕ → ℕ → ℕ
 growth low high v = pick (leb low v && ltb v high) 1 0
 
--- 01: the copies left over "go one each to the first members", in order, that can take one more
-unfoldable pub topped : List ℕ → List ℕ → ℕ → ℕ → List ℕ
-topped [] highs v left = []
-topped (l ∷ lows) [] v left = []
-topped (l ∷ lows) (h ∷ highs) v left =
-    let more : ℕ = min left (growth l h v) in
-    (clamp l h v + more) ∷ topped lows highs v (left - more)
-
 -- 01: the copies left over, S − T(v) at the level v
 unfoldable pub remainder : List ℕ → List ℕ → ℕ → ℕ
 remainder lows highs total = total - totalAt lows highs (level lows highs total)
 
+-- 02: a member's headroom at v, "high − v"
+abbrev pub headroom : ℕ → ℕ → ℕ
+headroom high v = high - v
+
+-- how many members that can take one copy more have more headroom than one with this high
+unfoldable pub roomier : List ℕ → List ℕ → ℕ → ℕ → ℕ
+roomier [] highs v high = 0
+roomier (l ∷ lows) [] v high = 0
+roomier (l ∷ lows) (h ∷ highs) v high =
+    pick (ltb (headroom high v) (headroom h v)) (growth l h v) 0 + roomier lows highs v high
+
+-- 02: the copies left over "go to members with the most high − v first, and among equals to the earlier", one each: a member that can
+-- take one gets it where copies are left for more members than those after it that have more headroom
+unfoldable pub byHeadroom : List ℕ → List ℕ → ℕ → ℕ → List ℕ
+byHeadroom [] highs v left = []
+byHeadroom (l ∷ lows) [] v left = []
+byHeadroom (l ∷ lows) (h ∷ highs) v left =
+    let more : ℕ = pick (ltb (roomier lows highs v h) left) (growth l h v) 0 in
+    (clamp l h v + more) ∷ byHeadroom lows highs v (left - more)
+
 -- 01: the levelled shares
 unfoldable pub levelled : List ℕ → List ℕ → ℕ → List ℕ
-levelled lows highs total = topped lows highs (level lows highs total) (remainder lows highs total)
+levelled lows highs total = byHeadroom lows highs (level lows highs total) (remainder lows highs total)

@@ -3,6 +3,7 @@ pub mod Shares
 pub mod Sound
 pub mod Figures
 pub mod Levels
+pub mod Ways
 pub mod Plans
 pub mod Groups
 pub mod Running

@@ -7,7 +7,7 @@ use lib.Dec.{leb}
 use lib.ListN.{length, getD, set}
 use Rattle.model.specs.Shares.{pick, sum, Within}
 use Rattle.model.specs.Figures.{meets}
-use Rattle.model.specs.Levels.{levelled}
+use Rattle.model.specs.Ways.{evened}
 use Rattle.model.specs.declared.Limits.{Limits}
 use Rattle.model.specs.declared.Turn.{Turn}
 use Rattle.model.specs.declared.Turn.the-variants.{Narrowed, NoPlan}
@@ -22,10 +22,10 @@ pub record Plan (lows highs : List ℕ) (total : ℕ) (limits : Limits) (xs : Li
 abbrev pub hasShares : List ℕ → List ℕ → ℕ → Bool
 hasShares lows highs total = leb (sum lows) total && leb total (sum highs)
 
--- a plan is found exactly where the levelled shares are one
+-- a plan is found exactly where the even shares are one, whoever has the copies left over
 unfoldable pub hasPlan : List ℕ → List ℕ → ℕ → Limits → Bool
 hasPlan lows highs total limits =
-    hasShares lows highs total && meets limits (length lows) total (levelled lows highs total)
+    hasShares lows highs total && meets limits (length lows) total (evened lows highs total)
 
 -- 01: 11 where no shares have the total, 12 where some have and none is within the limits
 unfoldable pub turnOf : List ℕ → List ℕ → ℕ → Limits → Turn

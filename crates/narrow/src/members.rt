@@ -48,7 +48,8 @@ pub(crate) fn narrow_ends(
     let row = asked.levelled.row;
     let v = asked.levelled.level;
     let up = asked.up;
-    let mut left = asked.levelled.over;
+    // Whoever gets the copies left over, the figures are the same: a member that can take one may have it, or may not.
+    let copies = end_of(0, asked.levelled.over, up);
     let mut shared = nothing_known();
     let mut next: usize = 0;
     while next < lows.len() {
@@ -56,9 +57,7 @@ pub(crate) fn narrow_ends(
         next += 1;
         let low = lows[member];
         let high = highs[member];
-        let more = extra(low, high, v, left);
-        let share = clamp(low, high, v) + more;
-        left -= more;
+        let share = clamp(low, high, v) + extra(low, high, v, copies);
         let end = end_of(low, high, up);
         let way = Way {
             member,

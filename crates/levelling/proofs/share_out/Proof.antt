@@ -10,7 +10,7 @@ use Rattle.model.specs.Laws.Levelled.{levelled-within, levelled-adds}
 use Rattle.levelling.specs.Inner.Shared.{SoundShares}
 use Rattle.levelling.specs.Laws.Shared.{shared-out, plan-front}
 use Rattle.model.specs.Laws.Sound.{levelled-is, levelled-length}
-use Rattle.levelling.specs.Laws.Additions.{level-known}
+use Rattle.levelling.specs.Laws.Additions.{level-known, has-takers}
 use Rattle.levelling.proofs.share_out.Statement.{statement}
 use Rattle.levelling.proofs.share_out.Tie as tie
 
@@ -26,7 +26,7 @@ fill-plan-requires c κs =
     let found = c .before in
     let s = start found in
     let is = found .find-level .ensures in
-    (s .pre .0 .sound, (s .pre .1 .1 .0, level-known (s .pre .0) _ _ (is .0) (is .1 .0)))
+    (has-takers (s .pre .0) _ _ (is .0) (is .1 .0), (s .pre .1 .1 .0, level-known (s .pre .0) _ _ (is .0) (is .1 .0)))
 
 -- the plan once it is filled
 module _ (c : tie.After-fill-plan) where

@@ -6,8 +6,12 @@ use native.Mathlib.Omega.{arith}
 use Rattle.model.specs.Shares.{greatestShare}
 use Rattle.model.specs.Levels.{totalAt, level, remainder}
 use Rattle.model.specs.Sound.{HasShares}
+use Rattle.model.specs.Laws.Headroom.{roomier-all}
+use Rattle.model.specs.Laws.Level.{level-share}
+use Rattle.model.specs.Laws.Levelled.{remainder-fits}
 use Rattle.model.specs.Laws.Sound.{level-within}
 use Rattle.levelling.specs.Additions.{mostAdditions, ByHalving, KnownLevel}
+use Rattle.levelling.specs.Inner.Headroom.{HasTakers}
 
 -- where nothing more is added up, any number of levels allows it
 pub halved-none : (levels count : ℕ) → ByHalving levels count count
@@ -38,3 +42,14 @@ unfolding remainder
 level-known {lows} {highs} {total} shared v left is-level is-remainder =
     let whole : totalAt lows highs v + left ≡ total = rw (is-remainder, is-level) (omega (arith, level-within shared)) in
     rw whole is-level
+
+-- and as many members can take a copy as are left over
+pub has-takers : {lows highs : List ℕ} {total : ℕ} → HasShares lows highs total → (v left : ℕ)
+    → v ≡ level lows highs total → left ≡ remainder lows highs total → HasTakers lows highs v left
+has-takers {lows} {highs} {total} shared v left is-level is-remainder =
+    rw (is-level, is-remainder)
+    (record {
+      sound = shared .sound;
+      share = level-share lows highs total;
+      enough = omega (arith, remainder-fits (shared .sound .ranges) total (shared .low) (shared .high), roomier-all (shared .sound .ranges) (level lows highs total));
+    })

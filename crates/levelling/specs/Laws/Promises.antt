@@ -4,9 +4,10 @@ use mathlib.Core.List.{List, _++_}
 use mathlib.Core.Path.{_≡_}
 use lib.ListN.{length, drop}
 use lib.Seq.{take-at, drop-at}
-use Rattle.model.specs.Levels.{levelled}
+use Rattle.model.specs.Levels.{remainder, levelled}
+use Rattle.model.specs.Laws.HeadroomFirst.{levelled-first}
 use Rattle.model.specs.Laws.Level.{totalAt-least, level-share, level-holds, level-greatest}
-use Rattle.model.specs.Laws.Levelled.{shares-exist, levelled-within, levelled-adds}
+use Rattle.model.specs.Laws.Levelled.{shares-exist, levelled-way, levelled-within, levelled-adds}
 use Rattle.model.specs.Laws.Shut.{marked-least-deviation, marked-least-spread, marked-least-pairs, marked-least-above}
 use Rattle.model.specs.declared.Figures.{Figures}
 use Rattle.model.specs.declared.Refusal.{Refusal}
@@ -24,6 +25,7 @@ module _ (lows highs marks : List ℕ) (total : ℕ) (plan : List ℕ) where
   levelled-kept : {v : Share} {figures : Figures} → LevelFinding lows highs marks total (length plan) (level.Levelled v figures)
       → LevelPromise lows highs marks total (v .copies) figures plan
       (levelled lows highs total ++ drop (length (levelled lows highs total)) plan)
+  unfolding remainder
   levelled-kept (LevelFinding.answered clear some) =
       let sound = passed-sound clear .0 in
       let marked = passed-marked clear in
@@ -48,6 +50,8 @@ module _ (lows highs marks : List ℕ) (total : ℕ) (plan : List ℕ) where
           greatest = level-greatest lows highs total;
         };
         figures = rw first;
+        handed = rw first (levelled-way ranges total (between .0) (between .1));
+        headroom = rw first (levelled-first lows highs total);
       }
 
   -- 01, demand 2, for levelling

@@ -1,5 +1,5 @@
 -- Shares, deviations and squares of a group stay far below what a number holds. Assumes nothing.
-use Prim.Native.Nat.{ℕ, suc, _+_, _*_, _≤_, _<_, min}
+use Prim.Native.Nat.{ℕ, suc, _+_, _*_, _≤_, _<_}
 use mathlib.Core.List.{List}
 use mathlib.Core.Path.{_≡_}
 use native.Mathlib.Nat.{mul-le-mul}
@@ -15,18 +15,13 @@ use Rattle.model.specs.Laws.Spread.{sumOf-bound}
 use Rattle.model.specs.Sound.{SoundRanges}
 use Rattle.model.specs.Laws.Sound.{highs-small}
 
--- a share with the copy that it takes is at most the range's high
-extra-at-most : (l h v left : ℕ) → l ≤ h → clamp l h v + min left (growth l h v) ≤ h
-extra-at-most l h v left p = omega (arith, growth-step l h v p, clamp-at-most l h (suc v) p)
-
--- member i's share with the copy that it takes is at most the greatest
-pub share-at-small : {lows highs : List ℕ} → SoundRanges lows highs → (i v left base more : ℕ) → i < length lows
-    → base ≡ clamp (getD lows i 0) (getD highs i 0) v → more ≡ min left (growth (getD lows i 0) (getD highs i 0) v)
+-- member i's share with a copy that it can take is at most the greatest
+pub share-at-small : {lows highs : List ℕ} → SoundRanges lows highs → (i v base more : ℕ) → i < length lows
+    → base ≡ clamp (getD lows i 0) (getD highs i 0) v → more ≤ growth (getD lows i 0) (getD highs i 0) v
     → base + more ≤ greatestShare
-share-at-small {lows} {highs} sound i v left base more h is-clamp is-growth =
+share-at-small {lows} {highs} sound i v base more h is-clamp can-take =
     let range = ranges-at (sound .ranges) i h in
-    let most = extra-at-most (getD lows i 0) (getD highs i 0) v left (range .0) in
-    omega arith
+    omega (arith, growth-step (getD lows i 0) (getD highs i 0) v (range .0), clamp-at-most (getD lows i 0) (getD highs i 0) (suc v) (range .0))
 
 module _ {lows highs xs : List ℕ} (sound : SoundRanges lows highs) (within : Within lows highs xs) where
   -- shares in the ranges are at most the greatest

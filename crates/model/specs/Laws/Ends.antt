@@ -7,7 +7,7 @@ use native.Mathlib.Nat.{le-antisymm}
 use native.Mathlib.Omega.{arith, by-contra}
 use lib.ListN.{length, getD}
 use Rattle.model.specs.Shares.{Ranges}
-use Rattle.model.specs.Levels.{levelled}
+use Rattle.model.specs.Ways.{evened}
 use Rattle.model.specs.Plans.{hasPlan, taken, narrowedLow, narrowedHigh}
 use Rattle.model.specs.Laws.Narrowing.{kept-inside, kept-taken, taken-kept}
 use Rattle.model.specs.Laws.Pinned.{taken-plan, plan-taken}
@@ -29,9 +29,9 @@ module _ {lows highs : List ℕ} (ranges : Ranges lows highs) (total : ℕ) (lim
       let (xs, plan, value) = kept-taken ranges total limits found i below v low high in
       rw value at (plan-taken ranges i below plan)
 
-  -- the levelled share is kept
-  pub levelled-taken : taken lows highs total limits i (getD (levelled lows highs total) i 0) ≡ true
-  levelled-taken = plan-taken ranges i below (found-plan ranges total limits found)
+  -- the even share is kept
+  pub evened-taken : taken lows highs total limits i (getD (evened lows highs total) i 0) ≡ true
+  evened-taken = plan-taken ranges i below (found-plan ranges total limits found)
 
   -- a value that is taken, the one before it not or none before it, is the narrowed low
   pub low-unique : (v : ℕ) → getD lows i 0 ≤ v → v ≤ getD highs i 0 → taken lows highs total limits i v ≡ true

@@ -1,15 +1,20 @@
--- The levelled shares are near the level, in the ranges, and add up to the total. Assumes nothing.
+-- Shares near a level are even; the levelled shares are near theirs, in the ranges, and add up to the total. Assumes nothing.
 use Prim.Native.Nat.{ℕ, zero, suc, _+_, _-_, _≤_, _<_, min}
+use mathlib.Core.Bool.{Bool, true, false}
 use mathlib.Core.List.{List, [], _∷_}
 use mathlib.Core.Logic.{_↔_}
-use mathlib.Core.Path.{_≡_}
+use mathlib.Core.Path.{_≡_, refl, _∙_}
 use native.Mathlib.Decide.{decLt}
 use native.Mathlib.Nat.{le-of-suc-le-suc, not-suc-le-zero}
 use native.Mathlib.Omega.{arith}
+use borrow.Author.Tests.{ltb-true, ltb-false}
+use lib.Dec.{ltb}
 use lib.ListN.{length, getD}
-use Rattle.model.specs.Shares.{greatestShare, Ranges, Within, sum}
-use Rattle.model.specs.Levels.{clamp, clamped, totalAt, level, growth, topped, remainder, levelled}
+use Rattle.model.specs.Shares.{pick, greatestShare, Ranges, Within, sum}
+use Rattle.model.specs.Levels.{clamp, clamped, totalAt, level, growth, remainder, roomier, byHeadroom, levelled}
 use Rattle.model.specs.Even.{Even}
+use Rattle.model.specs.Ways.{HandsOut, topped, evened}
+use Rattle.model.specs.Laws.Headroom.{growth-most, roomier-most}
 use Rattle.model.specs.Laws.Level.{growth-step, totalAt-cons, totalAt-mono, totalAt-least, totalAt-greatest, level-holds, level-next}
 
 -- shares in their ranges add up to at least the lows
@@ -90,20 +95,38 @@ topped-adds (Ranges.also {l = l} {h = h} {ls = ls} {hs = hs} p q r) v left fits 
     let all = rw (totalAt-cons l h ls hs v, totalAt-cons l h ls hs (suc v), growth-step l h v p) at fits in
     rw (totalAt-cons, topped-adds r v (left - min left (growth l h v)) (others-fit _ _ _ _ left all)) (omega arith)
 
--- the levelled shares are near the level
-pub levelled-near : {lows highs : List ℕ} → Ranges lows highs → (total : ℕ)
-    → Near (level lows highs total) lows highs (levelled lows highs total)
-unfolding levelled
-levelled-near {lows} {highs} r total = topped-near r (level lows highs total) (remainder lows highs total)
+-- of a number or none, at most the number
+picked-most : (b : Bool) (g : ℕ) → pick b g 0 ≤ g
+picked-most true g = omega arith
+picked-most false g = omega arith
 
--- the levelled shares are in the ranges
-pub levelled-within : {lows highs : List ℕ} → Ranges lows highs → (total : ℕ) → Within lows highs (levelled lows highs total)
-unfolding levelled
-levelled-within {lows} {highs} r total = topped-within r (level lows highs total) (remainder lows highs total)
+-- handing copies out by headroom gives such shares
+pub headroom-between : {lows highs : List ℕ} → Ranges lows highs → (v left : ℕ) → LevelOrNext v lows highs (byHeadroom lows highs v left)
+unfolding clamped byHeadroom
+headroom-between Ranges.none v left = Within.none
+headroom-between (Ranges.also {l = l} {h = h} {ls = ls} {hs = hs} p q r) v left =
+    let more : ℕ = pick (ltb (roomier ls hs v h) left) (growth l h v) 0 in
+    Within.also {l = clamp l h v} {h = clamp l h (suc v)} {x = clamp l h v + more}
+    (omega arith) (omega (arith, growth-step l h v p, picked-most (ltb (roomier ls hs v h) left) (growth l h v))) (headroom-between r v (left - more))
 
--- the levelled shares are even
-pub levelled-even : {lows highs : List ℕ} → Ranges lows highs → (total : ℕ) → Even lows highs (levelled lows highs total)
-levelled-even r total = near-even (levelled-near r total)
+-- the first member takes a copy that is there, and what it leaves the others can take: it takes none only where as many have more headroom
+headroom-fits : (b : Bool) (ahead left g c a d : ℕ) → ltb ahead left ≡ b → g ≤ 1 → ahead + a ≤ d → left ≤ (c + g + d) - (c + a)
+    → (pick b g 0 ≤ left) × (left - pick b g 0 ≤ d - a)
+headroom-fits true ahead left g c a d is one most fits = omega (arith, ltb-true ahead left is)
+headroom-fits false ahead left g c a d is one most fits = omega (arith, ltb-false ahead left is)
+
+-- as many copies as members grow at v are all taken
+pub headroom-adds : {lows highs : List ℕ} → Ranges lows highs → (v left : ℕ)
+    → left ≤ totalAt lows highs (suc v) - totalAt lows highs v
+    → sum (byHeadroom lows highs v left) ≡ totalAt lows highs v + left
+unfolding byHeadroom sum
+headroom-adds Ranges.none v left fits = unfold totalAt clamped in omega arith
+headroom-adds (Ranges.also {l = l} {h = h} {ls = ls} {hs = hs} p q r) v left fits =
+    let all = rw (totalAt-cons l h ls hs v, totalAt-cons l h ls hs (suc v), growth-step l h v p) at fits in
+    let test : Bool = ltb (roomier ls hs v h) left in
+    let most = headroom-fits test (roomier ls hs v h) left (growth l h v) (clamp l h v) (totalAt ls hs v) (totalAt ls hs (suc v))
+    refl (growth-most l h v) (roomier-most r v h) all in
+    rw (totalAt-cons, headroom-adds r v (left - pick test (growth l h v) 0) (most .1)) (omega (arith, most .0))
 
 -- one above the level, T is at least a total that the highs reach
 next-reaches : {lows highs : List ℕ} → Ranges lows highs → (total : ℕ) → total ≤ sum highs
@@ -115,15 +138,56 @@ next-reaches {lows} {highs} r total b =
       | no p ↦ omega (arith, totalAt-greatest r, totalAt-mono lows highs greatestShare (suc v) (omega arith))
     ]
 
--- the levelled shares add up to the total, where the lows add up to at most it and the highs to at least it
-pub levelled-adds : {lows highs : List ℕ} → Ranges lows highs → (total : ℕ) → sum lows ≤ total → total ≤ sum highs
-    → sum (levelled lows highs total) ≡ total
-unfolding levelled remainder
-levelled-adds {lows} {highs} r total a b =
-    let v : ℕ = level lows highs total in
-    let holds : totalAt lows highs v ≤ total = level-holds lows highs total (rw (totalAt-least r) a) in
-    let left : ℕ = total - totalAt lows highs v in
-    rw (topped-adds r v left (omega (arith, next-reaches r total b))) (omega arith)
+module _ {lows highs : List ℕ} (r : Ranges lows highs) (total : ℕ) (low : sum lows ≤ total) (high : total ≤ sum highs) where
+  -- the copies left over make up the total, and members can take them
+  pub remainder-adds : totalAt lows highs (level lows highs total) + remainder lows highs total ≡ total
+  unfolding remainder
+  remainder-adds = omega (arith, level-holds lows highs total (rw (totalAt-least r) low))
+
+  pub remainder-fits : remainder lows highs total ≤ totalAt lows highs (suc (level lows highs total)) - totalAt lows highs (level lows highs total)
+  remainder-fits = omega (arith, remainder-adds, next-reaches r total high)
+
+  -- the even shares and the levelled ones are two ways to hand them out
+  pub evened-way : HandsOut lows highs (level lows highs total) (remainder lows highs total) (evened lows highs total)
+  unfolding evened
+  evened-way = record { between = topped-between r _ _; adds = topped-adds r _ _ remainder-fits }
+
+  pub levelled-way : HandsOut lows highs (level lows highs total) (remainder lows highs total) (levelled lows highs total)
+  unfolding levelled
+  levelled-way = record { between = headroom-between r _ _; adds = headroom-adds r _ _ remainder-fits }
+
+  -- so both add up to the total
+  pub evened-adds : sum (evened lows highs total) ≡ total
+  evened-adds = evened-way .adds ∙ remainder-adds
+
+  pub levelled-adds : sum (levelled lows highs total) ≡ total
+  levelled-adds = levelled-way .adds ∙ remainder-adds
+
+module _ {lows highs : List ℕ} (r : Ranges lows highs) (total : ℕ) where
+  -- both are near the level
+  evened-near : Near (level lows highs total) lows highs (evened lows highs total)
+  unfolding evened
+  evened-near = topped-near r _ _
+
+  pub levelled-near : Near (level lows highs total) lows highs (levelled lows highs total)
+  unfolding levelled
+  levelled-near = between-near r _ (headroom-between r _ _)
+
+  -- in the ranges
+  pub evened-within : Within lows highs (evened lows highs total)
+  unfolding evened
+  evened-within = topped-within r _ _
+
+  pub levelled-within : Within lows highs (levelled lows highs total)
+  unfolding levelled
+  levelled-within = between-within r _ (headroom-between r _ _)
+
+  -- and even
+  pub evened-even : Even lows highs (evened lows highs total)
+  evened-even = near-even evened-near
+
+  pub levelled-even : Even lows highs (levelled lows highs total)
+  levelled-even = near-even levelled-near
 
 -- 01: shares with a total exist exactly if the lows add up to at most it and the highs to at least it
 pub shares-exist : {lows highs : List ℕ} → Ranges lows highs → (total : ℕ)

@@ -8,10 +8,10 @@ use native.Mathlib.Nat.{le-of-suc-le-suc, le-dest}
 use native.Mathlib.Omega.{arith}
 use lib.ListN.{length, getD}
 use Rattle.model.specs.Shares.{Ranges}
-use Rattle.model.specs.Levels.{levelled}
+use Rattle.model.specs.Ways.{evened}
 use Rattle.model.specs.Plans.{Plan, hasPlan, taken, tabulate, narrowedLow, narrowedHigh, narrowedLows, narrowedHighs}
 use Rattle.model.specs.Laws.Least.{Exchanged, step-down, step-up}
-use Rattle.model.specs.Laws.Levelled.{levelled-within, levelled-even}
+use Rattle.model.specs.Laws.Levelled.{evened-within, evened-even}
 use Rattle.model.specs.Laws.Lists.{within-length, within-at}
 use Rattle.model.specs.Laws.Pinned.{taken-plan, plan-taken}
 use Rattle.model.specs.Laws.Plans.{meets-less, found-plan}
@@ -20,7 +20,7 @@ use Rattle.model.specs.declared.Limits.{Limits}
 use Rattle.model.specs.Narrowing.{Taken}
 
 module _ {lows highs : List ℕ} (ranges : Ranges lows highs) (total : ℕ) (limits : Limits) where
-  -- a step toward the levelled shares makes a plan of a plan
+  -- a step toward the even shares makes a plan of a plan
   stepped-plan : {xs ys : List ℕ} → Plan lows highs total limits xs → Exchanged lows highs xs ys → Plan lows highs total limits ys
   stepped-plan {xs} {ys} plan stepped = record {
     within = stepped .within;
@@ -29,28 +29,28 @@ module _ {lows highs : List ℕ} (ranges : Ranges lows highs) (total : ℕ) (lim
   }
 
   module _ (found : hasPlan lows highs total limits ≡ true) (i : ℕ) (below : i < length lows) where
-    -- the levelled shares are a plan
-    levelled-plan : Plan lows highs total limits (levelled lows highs total)
-    levelled-plan = found-plan ranges total limits found
+    -- the even shares are a plan
+    evened-plan : Plan lows highs total limits (evened lows highs total)
+    evened-plan = found-plan ranges total limits found
 
-    -- from a value that is taken, every value down to the levelled share is
-    pub taken-down : (steps v : ℕ) → getD (levelled lows highs total) i 0 ≤ v
+    -- from a value that is taken, every value down to the even share is
+    pub taken-down : (steps v : ℕ) → getD (evened lows highs total) i 0 ≤ v
         → Taken lows highs total limits i (v + steps) → Taken lows highs total limits i v
     taken-down zero v reach (xs, plan, value) = (xs, plan, omega arith)
     taken-down (suc steps) v reach (xs, plan, value) =
         let (ys, stepped, less) =
-        step-down (levelled-within ranges total) (levelled-even ranges total) (plan .within)
-        (plan .adds ∙ sym (levelled-plan .adds)) i (omega (arith, within-length (plan .within) .0)) (omega arith) in
+        step-down (evened-within ranges total) (evened-even ranges total) (plan .within)
+        (plan .adds ∙ sym (evened-plan .adds)) i (omega (arith, within-length (plan .within) .0)) (omega arith) in
         taken-down steps v reach (ys, stepped-plan plan stepped, omega arith)
 
-    -- from a value that is taken, every value up to the levelled share is
-    pub taken-up : (steps v : ℕ) → v + steps ≤ getD (levelled lows highs total) i 0
+    -- from a value that is taken, every value up to the even share is
+    pub taken-up : (steps v : ℕ) → v + steps ≤ getD (evened lows highs total) i 0
         → Taken lows highs total limits i v → Taken lows highs total limits i (v + steps)
     taken-up zero v reach (xs, plan, value) = (xs, plan, omega arith)
     taken-up (suc steps) v reach (xs, plan, value) =
         let (ys, stepped, more) =
-        step-up (levelled-within ranges total) (levelled-even ranges total) (plan .within)
-        (plan .adds ∙ sym (levelled-plan .adds)) i (omega (arith, within-length (plan .within) .0)) (omega arith) in
+        step-up (evened-within ranges total) (evened-even ranges total) (plan .within)
+        (plan .adds ∙ sym (evened-plan .adds)) i (omega (arith, within-length (plan .within) .0)) (omega arith) in
         let (zs, last, value) =
         taken-up steps (suc v) (omega arith) (ys, stepped-plan plan stepped, omega arith) in
         (zs, last, omega arith)
@@ -85,7 +85,7 @@ module _ {lows highs : List ℕ} (ranges : Ranges lows highs) (total : ℕ) (lim
       × (narrowedLow lows highs total limits i ≤ narrowedHigh lows highs total limits i)
       × (narrowedHigh lows highs total limits i ≤ getD highs i 0)
   kept-inside found i below =
-      let plan : Plan lows highs total limits (levelled lows highs total) = found-plan ranges total limits found in
+      let plan : Plan lows highs total limits (evened lows highs total) = found-plan ranges total limits found in
       (lowest i below plan .from, omega (arith, lowest i below plan .upTo, highest i below plan .from), highest i below plan .upTo)
 
   -- 01: "They form a range": every value from the narrowed low to the narrowed high is taken by some plan
@@ -96,8 +96,8 @@ module _ {lows highs : List ℕ} (ranges : Ranges lows highs) (total : ℕ) (lim
       let inside : (getD lows i 0 ≤ narrowedLow lows highs total limits i)
       × (narrowedLow lows highs total limits i ≤ narrowedHigh lows highs total limits i)
       × (narrowedHigh lows highs total limits i ≤ getD highs i 0) = kept-inside found i below in
-      let plan : Plan lows highs total limits (levelled lows highs total) = found-plan ranges total limits found in
-      elim (decLe v (getD (levelled lows highs total) i 0)) [
+      let plan : Plan lows highs total limits (evened lows highs total) = found-plan ranges total limits found in
+      elim (decLe v (getD (evened lows highs total) i 0)) [
         | yes reach ↦
             let (steps, reaches) = le-dest low in
             rw (← reaches) (taken-up found i below steps (narrowedLow lows highs total limits i) (omega arith)

@@ -11,7 +11,7 @@ use Rattle.model.specs.Shares.{Ranges, Within, greatestShare}
 use Rattle.model.specs.Plans.{Plan, taken}
 use Rattle.model.specs.Laws.Lists.{within-length, within-at, within-of, ranges-length, ranges-at, ranges-of}
 use Rattle.model.specs.Laws.Plans.{found-plan, plan-found}
-use Rattle.model.specs.Levels.{levelled}
+use Rattle.model.specs.Ways.{evened}
 use Rattle.model.specs.declared.Limits.{Limits}
 
 -- what holds of the pinned index and of every other holds of all
@@ -62,9 +62,9 @@ module _ {lows highs : List ℕ} (ranges : Ranges lows highs) (i : ℕ) (below :
         → (xs : List ℕ) × Plan lows highs total limits xs × (getD xs i 0 ≡ v)
     taken-plan v low high holds =
         let share : v ≤ greatestShare = omega (arith, ranges-at ranges i below) in
-        let plan : Plan (set lows i v) (set highs i v) total limits (levelled (set lows i v) (set highs i v) total) =
+        let plan : Plan (set lows i v) (set highs i v) total limits (evened (set lows i v) (set highs i v) total) =
         found-plan (pinned-ranges v share) total limits holds in (
-          levelled (set lows i v) (set highs i v) total,
+          evened (set lows i v) (set highs i v) total,
           record {
             within = unpin low high (plan .within) .0;
             adds = plan .adds;

@@ -1,4 +1,4 @@
--- A group has a plan exactly where its levelled shares are one. Assumes nothing.
+-- Least figures; a group has a plan exactly where its even shares are one. Assumes nothing.
 use Prim.Native.Nat.{ℕ, _≤_}
 use mathlib.Core.Bool.{true}
 use mathlib.Core.List.{List}
@@ -10,13 +10,14 @@ use borrow.Author.Tests.{le-leb, leb-true}
 use Rattle.model.specs.Shares.{Ranges, Within, sum}
 use Rattle.model.specs.Figures.{allows, meets, deviation, spread, pairs, above}
 use Rattle.model.specs.Levels.{levelled}
+use Rattle.model.specs.Ways.{evened}
 use Rattle.model.specs.Plans.{Plan, hasShares, hasPlan}
 use Rattle.model.specs.Laws.Tests.{both, both-left, both-right}
 use Rattle.model.specs.Transfers.{SchurConvex}
 use Rattle.model.specs.Laws.Transfer.{deviation-schur, spread-schur, above-schur}
 use Rattle.model.specs.Laws.Pairs.{pairs-schur}
 use Rattle.model.specs.Laws.Least.{least}
-use Rattle.model.specs.Laws.Levelled.{levelled-within, levelled-even, levelled-adds, within-sum-low, within-sum-high}
+use Rattle.model.specs.Laws.Levelled.{evened-within, evened-even, evened-adds, levelled-within, levelled-even, levelled-adds, within-sum-low, within-sum-high}
 use Rattle.model.specs.declared.Limit.{Limit}
 use Rattle.model.specs.declared.Limit.the-variants.{Any, AtMost}
 use Rattle.model.specs.declared.Limits.{Limits}
@@ -37,14 +38,20 @@ meets-less limits n total xs ys less held =
     (allows-less (limits .spread) (less (spread n total) (spread-schur n total)) (both-left _ _ others))
     (allows-less (limits .pairs) (less pairs pairs-schur) (both-right (allows (limits .spread) (spread n total xs)) _ others)))
 
--- the levelled shares have the least of every figure that an exchange never raises, among the shares with their total
-pub levelled-least : {lows highs xs : List ℕ} → Ranges lows highs → (total : ℕ) → Within lows highs xs → sum xs ≡ total
-    → (F : List ℕ → ℕ) → SchurConvex F → F (levelled lows highs total) ≤ F xs
-levelled-least {lows} {highs} {xs} ranges total within adds F convex =
-    let low : sum lows ≤ total = omega (arith, within-sum-low within) in
-    let high : total ≤ sum highs = omega (arith, within-sum-high within) in
-    least convex (levelled-within ranges total) (levelled-even ranges total) within
-    (adds ∙ sym (levelled-adds ranges total low high))
+-- even shares and the levelled ones have the least of every figure that an exchange never raises, among the shares with their total
+module _ {lows highs xs : List ℕ} (ranges : Ranges lows highs) (total : ℕ) (within : Within lows highs xs) (adds : sum xs ≡ total)
+    (F : List ℕ → ℕ) (convex : SchurConvex F) where
+  low : sum lows ≤ total
+  low = omega (arith, within-sum-low within)
+
+  high : total ≤ sum highs
+  high = omega (arith, within-sum-high within)
+
+  pub evened-least : F (evened lows highs total) ≤ F xs
+  evened-least = least convex (evened-within ranges total) (evened-even ranges total) within (adds ∙ sym (evened-adds ranges total low high))
+
+  pub levelled-least : F (levelled lows highs total) ≤ F xs
+  levelled-least = least convex (levelled-within ranges total) (levelled-even ranges total) within (adds ∙ sym (levelled-adds ranges total low high))
 
 -- so the least deviation, the least spread, the least pair differences and the least total above every t
 pub least-deviation : {lows highs xs : List ℕ} → Ranges lows highs → (total : ℕ) → Within lows highs xs → sum xs ≡ total
@@ -63,15 +70,15 @@ pub least-above : {lows highs xs : List ℕ} → Ranges lows highs → (total : 
     → (t : ℕ) → above t (levelled lows highs total) ≤ above t xs
 least-above ranges total within adds t = levelled-least ranges total within adds (above t) (above-schur t)
 
--- where a plan is found, the levelled shares are one
+-- where a plan is found, the even shares are one
 pub found-plan : {lows highs : List ℕ} → Ranges lows highs → (total : ℕ) (limits : Limits)
-    → hasPlan lows highs total limits ≡ true → Plan lows highs total limits (levelled lows highs total)
+    → hasPlan lows highs total limits ≡ true → Plan lows highs total limits (evened lows highs total)
 unfolding hasPlan
 found-plan {lows} {highs} ranges total limits found =
     let shares : hasShares lows highs total ≡ true = both-left _ _ found in
     record {
-      within = levelled-within ranges total;
-      adds = levelled-adds ranges total
+      within = evened-within ranges total;
+      adds = evened-adds ranges total
           (leb-true (sum lows) total (both-left _ _ shares))
           (leb-true total (sum highs) (both-right (leb (sum lows) total) _ shares));
       meets = both-right (hasShares lows highs total) _ found;
@@ -85,5 +92,5 @@ plan-found {lows} {highs} ranges {total} {limits} {xs} plan =
     let low : sum lows ≤ total = omega (arith, within-sum-low (plan .within), plan .adds) in
     let high : total ≤ sum highs = omega (arith, within-sum-high (plan .within), plan .adds) in
     both (both (le-leb (sum lows) total low) (le-leb total (sum highs) high))
-    (meets-less limits (length lows) total xs (levelled lows highs total)
-    (levelled-least ranges total (plan .within) (plan .adds)) (plan .meets))
+    (meets-less limits (length lows) total xs (evened lows highs total)
+    (evened-least ranges total (plan .within) (plan .adds)) (plan .meets))

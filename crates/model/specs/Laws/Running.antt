@@ -5,11 +5,13 @@ use mathlib.Core.List.{List, [], _∷_}
 use mathlib.Core.Path.{_≡_, refl, sym, ap, _∙_}
 use native.Mathlib.Nat.{suc-inj}
 use native.Mathlib.Omega.{arith}
-use lib.Dec.{leb}
+use lib.Dec.{leb, ltb}
 use borrow.Author.Tests.{le-ltb, eqb-true}
 use lib.ListN.{length, getD}
 use Rattle.model.specs.Shares.{greatestShare, Ranges, Within, sum, sumOf}
-use Rattle.model.specs.Levels.{clamp, clamped, totalAt, levelBelow, level, growth, topped, remainder, levelled}
+use Rattle.model.specs.Levels.{clamp, clamped, totalAt, levelBelow, level, growth, remainder, headroom, roomier, byHeadroom, levelled}
+use Rattle.model.specs.Ways.{topped, evened}
+use Rattle.model.specs.Laws.Headroom.{isAhead, headroomCopy, ahead-rests, none-picked}
 use Rattle.model.specs.Plans.{hasShares}
 use Rattle.model.specs.Laws.Lists.{sum-sumOf}
 use Rattle.model.specs.Laws.Tests.{right-fails}
@@ -190,8 +192,32 @@ running-topped (Marked.shut {ms} {ls} {hs} m) v left =
     let none : left - min left (growth 0 0 v) ≡ left = omega (arith, shut-growth v) in
     ap (λ (n : ℕ). running ms (topped ls hs v n)) none ∙ running-topped m v left
 
+-- nor is it ahead of any
+running-roomier : {ms ls hs : List ℕ} → Marked ms ls hs → (v t : ℕ) → roomier (running ms ls) (running ms hs) v t ≡ roomier ls hs v t
+unfolding running roomier
+running-roomier Marked.none v t = refl
+running-roomier (Marked.run {l} {h} m) v t = ap (λ (n : ℕ). isAhead l h v t + n) (running-roomier m v t)
+running-roomier (Marked.shut m) v t = omega (arith, ahead-rests 0 0 v t (shut-growth v), running-roomier m v t)
+
+running-headroom : {ms ls hs : List ℕ} → Marked ms ls hs → (v left : ℕ)
+    → running ms (byHeadroom ls hs v left) ≡ byHeadroom (running ms ls) (running ms hs) v left
+unfolding running byHeadroom
+running-headroom Marked.none v left = refl
+running-headroom (Marked.run {l} {h} {ms} {ls} {hs} m) v left =
+    rw (running-roomier m v h)
+    (ap (λ (xs : List ℕ). (clamp l h v + headroomCopy ls hs v left l h) ∷ xs) (running-headroom m v (left - headroomCopy ls hs v left l h)))
+running-headroom (Marked.shut {ms} {ls} {hs} m) v left =
+    let none : left - headroomCopy ls hs v left 0 0 ≡ left = omega (arith, none-picked (ltb (roomier ls hs v 0) left) (shut-growth v)) in
+    ap (λ (n : ℕ). running ms (byHeadroom ls hs v n)) none ∙ running-headroom m v left
+
 -- the levelled shares of the running members are those that they have among all members
 pub running-levelled : {ms ls hs : List ℕ} → Marked ms ls hs → (total : ℕ)
     → running ms (levelled ls hs total) ≡ levelled (running ms ls) (running ms hs) total
 unfolding levelled
-running-levelled m total = rw (running-level m total, running-remainder m total) (running-topped m _ _)
+running-levelled m total = rw (running-level m total, running-remainder m total) (running-headroom m _ _)
+
+-- and so are the even ones
+pub running-evened : {ms ls hs : List ℕ} → Marked ms ls hs → (total : ℕ)
+    → running ms (evened ls hs total) ≡ evened (running ms ls) (running ms hs) total
+unfolding evened
+running-evened m total = rw (running-level m total, running-remainder m total) (running-topped m _ _)

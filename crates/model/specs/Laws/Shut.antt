@@ -8,14 +8,16 @@ use lib.ListN.{length}
 use Rattle.model.specs.Shares.{Ranges, Within, sum, sumOf}
 use Rattle.model.specs.Figures.{deviation, spread, pairs, above}
 use Rattle.model.specs.Levels.{levelled}
-use Rattle.model.specs.Running.{running, restored, Marked, MarkedPlan, MarkedPlans, markedDeviation, markedSpread, markedPairs, markedAbove, markedBound}
+use Rattle.model.specs.Ways.{evened}
+use Rattle.model.specs.Running.{running, restored, Marked, MarkedPlan, MarkedPlans, markedDeviation, markedSpread, markedPairs, markedAbove, markedBound, markedFigures}
 use Rattle.model.specs.Transfers.{SchurConvex}
 use Rattle.model.specs.Verdicts.{Shares, Plans}
 use Rattle.model.specs.Laws.Deviation.{deviation-bound, levelled-reaches-bound}
-use Rattle.model.specs.Laws.Levelled.{levelled-within}
+use Rattle.model.specs.Laws.Levelled.{levelled-way, levelled-within, evened-way, evened-within}
 use Rattle.model.specs.Laws.Pairs.{pairs-schur}
-use Rattle.model.specs.Laws.Plans.{levelled-least, found-plan, plan-found}
-use Rattle.model.specs.Laws.Running.{running-ranges, running-within, running-sum, running-levelled, running-lows, running-highs}
+use Rattle.model.specs.Laws.Plans.{levelled-least, plan-found}
+use Rattle.model.specs.Laws.Ways.{levelled-plan, ways-figures}
+use Rattle.model.specs.Laws.Running.{running-ranges, running-within, running-sum, running-levelled, running-evened, running-lows, running-highs}
 use Rattle.model.specs.Laws.Marked.{running-counted, restored-within, running-restored, restored-running, marked-plan, plan-marked}
 use Rattle.model.specs.Laws.Transfer.{deviation-schur, spread-schur, above-schur}
 use Rattle.model.specs.declared.Limits.{Limits}
@@ -64,6 +66,21 @@ module _ {ms ls hs : List ℕ} (marked : Marked ms ls hs) (ranges : Ranges ls hs
       (levelled-reaches-bound (running-ranges ms ranges) total q
       (omega (arith, running-lows marked)) (omega (arith, running-highs marked)) divides)
 
+-- item 6 of 02 moved no figure: the shares of before have the same
+pub marked-figures-before : {ms ls hs : List ℕ} → Marked ms ls hs → Ranges ls hs → (total : ℕ) → sum ls ≤ total → total ≤ sum hs
+    → markedFigures ms total (levelled ls hs total) ≡ markedFigures ms total (evened ls hs total)
+marked-figures-before {ms} {ls} {hs} marked ranges total low high =
+    let core = running-ranges ms ranges in
+    let from : sum (running ms ls) ≤ total = omega (arith, running-lows marked) in
+    let upTo : total ≤ sum (running ms hs) = omega (arith, running-highs marked) in
+    rw (
+      running-counted ms (levelled-within ranges total),
+      running-counted ms (evened-within ranges total),
+      running-levelled marked total,
+      running-evened marked total,
+    )
+    (ways-figures core (levelled-way core total from upTo) (evened-way core total from upTo) (length (running ms ls)) total)
+
 -- where there is a plan, the levelled shares are one
 pub levelled-marked : {ms ls hs xs : List ℕ} → Marked ms ls hs → Ranges ls hs → (total : ℕ) (limits : Limits)
     → MarkedPlan ms ls hs total limits xs → MarkedPlan ms ls hs total limits (levelled ls hs total)
@@ -72,7 +89,7 @@ levelled-marked {ms} {ls} {hs} marked ranges total limits plan =
     let same : restored ms (levelled (running ms ls) (running ms hs) total) ≡ levelled ls hs total =
     ap (restored ms) (sym (running-levelled marked total)) ∙ restored-running marked (levelled-within ranges total) in
     subst (λ (ys : List ℕ). MarkedPlan ms ls hs total limits ys) same
-    (plan-marked marked (found-plan core total limits (plan-found core (marked-plan marked plan))))
+    (plan-marked marked (levelled-plan core total limits (plan-found core (marked-plan marked plan))))
 
 module _ {ms ls hs : List ℕ} (marked : Marked ms ls hs) (total : ℕ) where
   -- shares with the total exist where the running members have them

@@ -8,7 +8,7 @@ use mathlib.Core.Path.{_≡_, sym}
 use native.Mathlib.Omega.{arith}
 use lib.ListN.{length}
 use Rattle.model.specs.Shares.{Ranges, greatestShare, greatestTotal, sum, mostUnits}
-use Rattle.model.specs.Levels.{totalAt, clamped, level, topped, remainder, levelled}
+use Rattle.model.specs.Levels.{totalAt, clamped, level, remainder, byHeadroom, levelled}
 use Rattle.model.specs.Plans.{hasShares}
 use Rattle.model.specs.Running.{running}
 use Rattle.model.specs.Laws.Running.{running-ranges, running-few}
@@ -59,7 +59,7 @@ level-within {lows} {highs} {total} shared =
 
 -- the shares at the level, with the copies left over handed out, are the levelled shares
 pub levelled-is : (lows highs : List ℕ) (total v left : ℕ) → v ≡ level lows highs total → left ≡ remainder lows highs total
-    → topped lows highs v left ≡ levelled lows highs total
+    → byHeadroom lows highs v left ≡ levelled lows highs total
 unfolding levelled
 levelled-is lows highs total v left is-level is-remainder = rw (is-remainder, is-level)
 

@@ -8,7 +8,7 @@ use native.Mathlib.Omega.{arith}
 use lib.Dec.{leb}
 use borrow.Author.Tests.{le-leb, leb-true}
 use Rattle.model.specs.Shares.{pick, Ranges, sum}
-use Rattle.model.specs.Levels.{levelled}
+use Rattle.model.specs.Ways.{evened}
 use Rattle.model.specs.Plans.{hasShares, hasPlan, turnOf}
 use Rattle.model.specs.Laws.Levelled.{shares-exist}
 use Rattle.model.specs.Laws.Plans.{found-plan, plan-found}
@@ -60,7 +60,7 @@ module _ {lows highs : List ℕ} (ranges : Ranges lows highs) (total : ℕ) (lim
   given (Verdict.noShares none) = rw (no-shares ranges total none)
   given (Verdict.noPlan some none) =
       let fails : hasPlan lows highs total limits ≡ false =
-      refuted (hasPlan lows highs total limits) (λ found. none (levelled lows highs total, found-plan ranges total limits found)) in
+      refuted (hasPlan lows highs total limits) (λ found. none (evened lows highs total, found-plan ranges total limits found)) in
       rw (shares-found ranges total some, fails)
 
   held : {turn : Turn} → Verdict lows highs total limits turn → Verdict lows highs total limits (turnOf lows highs total limits)
@@ -71,7 +71,7 @@ module _ {lows highs : List ℕ} (ranges : Ranges lows highs) (total : ℕ) (lim
   by-tests false p shares plan = held (Verdict.noShares (λ some. clash (shares-found ranges total some) shares))
   by-tests true false shares plan =
       held (Verdict.noPlan (found-shares ranges total shares) (λ some. clash (plan-found ranges (some .1)) plan))
-  by-tests true true shares plan = held (Verdict.narrowed (levelled lows highs total, found-plan ranges total limits plan))
+  by-tests true true shares plan = held (Verdict.narrowed (evened lows highs total, found-plan ranges total limits plan))
 
   -- a turn has the words for its answer
   pub verdict : Verdict lows highs total limits (turnOf lows highs total limits)

@@ -1,47 +1,59 @@
 -- The ends that the search finds are those of the narrowed range. Assumes nothing.
-use Prim.Native.Nat.{ℕ, suc, _≤_, _<_}
-use mathlib.Core.Bool.{true, false}
+use Prim.Native.Nat.{ℕ, suc, _+_, _≤_, _<_, min}
+use mathlib.Core.Bool.{Bool, true, false}
 use mathlib.Core.List.{List}
 use mathlib.Core.Logic.{_≢_}
-use mathlib.Core.Path.{_≡_, sym, ap, _∙_}
+use mathlib.Core.Path.{_≡_, sym, ap, subst, _∙_}
 use native.Mathlib.Omega.{arith}
 use lib.ListN.{length, getD}
-use Rattle.model.specs.Shares.{Within, greatestShare}
+use Rattle.model.specs.Shares.{pick, Ranges, greatestShare}
 use Rattle.model.specs.Figures.{met}
-use Rattle.model.specs.Levels.{topped}
+use Rattle.model.specs.Levels.{clamp, growth}
+use Rattle.model.specs.Ways.{HandsOut, topped}
 use Rattle.model.specs.Plans.{Plan, taken, narrowedLow, narrowedHigh}
 use Rattle.model.specs.Laws.Ends.{low-unique, high-unique}
-use Rattle.model.specs.Laws.Levelled.{topped-within}
+use Rattle.model.specs.Laws.Levelled.{topped-between, topped-adds}
 use Rattle.model.specs.Laws.Lists.{ranges-at, within-at, within-length}
 use Rattle.model.specs.Laws.Pinned.{plan-taken}
 use Rattle.model.specs.Laws.Plans.{found-plan}
 use Rattle.model.specs.Laws.Tests.{clash}
+use Rattle.model.specs.Laws.Ways.{way-within, way-copy, way-none, ways-figures}
 use Rattle.model.specs.declared.Limits.{Limits}
 use Rattle.probe.specs.Inner.Pinned.{Reached}
-use Rattle.probe.specs.Laws.Pinned.{reached-adds, reached-figures}
+use Rattle.probe.specs.Laws.Pinned.{reached-figures}
 use Rattle.narrow.specs.Inner.Tabled.{Tabled, HasPlan}
 use Rattle.narrow.specs.Inner.Edges.{Edge, Reaches, Approach, Planned}
 
--- a group that has a plan gives member i its share at the level reached by one
-pub levelled-planned : {lows highs : List ℕ} {total : ℕ} {limits : Limits} → HasPlan lows highs total limits
-    → {m c w r : ℕ} → Reached lows highs total m c w r → (i : ℕ) → i < length lows
-    → Planned lows highs total limits i (getD (topped lows highs w r) i 0)
-levelled-planned {lows} {highs} {total} {limits} has {m} {c} {w} {r} reached i below =
-    let within : Within lows highs (topped lows highs w r) = topped-within (has .sound .ranges) w r in
-    let range = within-at within i (omega (arith, within-length within)) in
-    let found = found-plan (has .sound .ranges) total limits (has .found) in
-    let plan : Plan lows highs total limits (topped lows highs w r) = record {
-      within = within;
-      adds = reached-adds (has .sound .ranges) reached;
-      meets = ap (met limits) (sym (reached-figures (has .sound .ranges) reached (length lows))) ∙ found .meets;
-    } in
-    record {
-      has = has;
-      here = below;
-      low = range .0;
-      high = range .1;
-      passes = plan-taken (has .sound .ranges) i below plan;
-    }
+module _ {lows highs : List ℕ} {total : ℕ} {limits : Limits} (has : HasPlan lows highs total limits)
+    {m c w r : ℕ} (reached : Reached lows highs total m c w r) (i : ℕ) (below : i < length lows) where
+  abbrev ranges : Ranges lows highs
+  ranges = has .sound .ranges
+
+  -- a group that has a plan gives member i what any way to hand out the copies left over at the level gives it
+  way-planned : {xs : List ℕ} → HandsOut lows highs w r xs → {x : ℕ} → getD xs i 0 ≡ x → Planned lows highs total limits i x
+  way-planned {xs} way {x} is =
+      let within = way-within ranges way in
+      let range = within-at within i (omega (arith, within-length within)) in
+      let found = found-plan ranges total limits (has .found) in
+      let first : HandsOut lows highs w r (topped lows highs w r) = record { between = topped-between ranges w r; adds = topped-adds ranges w r (reached .fits) } in
+      let plan : Plan lows highs total limits xs = record {
+        within = within;
+        adds = way .adds ∙ reached .holds;
+        meets = ap (met limits) (ways-figures ranges way first (length lows) total ∙ sym (reached-figures ranges reached (length lows))) ∙ found .meets;
+      } in
+      record {
+        has = has;
+        here = below;
+        low = omega (arith, range);
+        high = omega (arith, range);
+        passes = subst (λ (v : ℕ). taken lows highs total limits i v ≡ true) is (plan-taken ranges i below plan);
+      }
+
+  -- so, toward its low, the level moved into its range, and toward its high a copy more where it can take one of those left over
+  pub near-planned : (up : Bool)
+      → Planned lows highs total limits i (clamp (getD lows i 0) (getD highs i 0) w + min (pick up r 0) (growth (getD lows i 0) (getD highs i 0) w))
+  near-planned true = let (xs, way, is) = way-copy ranges w r i below (reached .fits) in way-planned way is
+  near-planned false = let (xs, way, is) = way-none ranges w r i below (reached .spare) in way-planned way (omega arith)
 
 module _ {lows highs : List ℕ} {total : ℕ} {limits : Limits} {i share : ℕ} (planned : Planned lows highs total limits i share) where
   -- the member's range is one of shares

@@ -4,7 +4,8 @@ use mathlib.Core.List.{List}
 use mathlib.Core.Path.{_≡_}
 use Rattle.model.specs.Shares.{greatestShare, mostUnits}
 use Rattle.model.specs.Figures.{pairs}
-use Rattle.model.specs.Levels.{clamp, clamped, topped}
+use Rattle.model.specs.Levels.{clamp, clamped}
+use Rattle.model.specs.Ways.{topped}
 use Rattle.probe.specs.declared.pairs.LevelSpot.{LevelSpot}
 use Rattle.probe.specs.declared.terms.Terms.{Terms}
 use Rattle.probe.specs.Inner.Distances.{mostPairs, MarkedBelow}

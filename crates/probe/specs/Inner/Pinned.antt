@@ -23,4 +23,5 @@ pub record Reached (lows highs : List ℕ) (total m c w r : ℕ) : Type 0 where
   pub share : w ≤ greatestShare
   pub holds : totalAt lows highs w + r ≡ total
   pub fits : r ≤ totalAt lows highs (suc w) - totalAt lows highs w
+  pub spare : 0 < r → r < totalAt lows highs (suc w) - totalAt lows highs w
   pub sums : (f : ℕ → ℕ) → sumOf f (clamped lows highs w) + c * f m ≡ sumOf f (clamped lows highs m) + c * f w

@@ -6,7 +6,7 @@ use mathlib.Core.Path.{_≡_}
 use lib.Dec.{leb}
 use Rattle.model.specs.Shares.{sumOf}
 use Rattle.model.specs.Figures.{deviation}
-use Rattle.model.specs.Levels.{topped}
+use Rattle.model.specs.Ways.{topped}
 use Rattle.model.specs.Plans.{hasPlan}
 use Rattle.model.specs.declared.Limits.{Limits}
 use Rattle.probe.specs.declared.probing.Levelled.{Levelled}

@@ -9,7 +9,8 @@ use borrow.Author.Tests.{le-leb, lt-ltb}
 use lib.ListN.{length}
 use Rattle.model.specs.Shares.{greatestShare, sumOf}
 use Rattle.model.specs.Figures.{met, apart, figuresOf, deviation, spread}
-use Rattle.model.specs.Levels.{clamp, clamped, growth, topped, levelled}
+use Rattle.model.specs.Levels.{clamp, clamped, growth}
+use Rattle.model.specs.Ways.{topped, evened}
 use Rattle.model.specs.Plans.{hasPlan}
 use Rattle.model.specs.Laws.Pairs.{pairs-same}
 use Rattle.model.specs.Laws.Level.{totalAt-mono, totalAt-greatest}
@@ -162,7 +163,7 @@ module _ {lows highs table : List ℕ} {total : ℕ} (sound : SoundWithTotal low
       enough′ = found-reach pin′ follows (found-alike found) .greatest
 
       -- both levelled groups have the same figures
-      figures-alike : figuresOf (length lows₁) total (levelled lows₁ highs₁ total) ≡ figuresOf (length lows₂) total (levelled lows₂ highs₂ total)
+      figures-alike : figuresOf (length lows₁) total (evened lows₁ highs₁ total) ≡ figuresOf (length lows₂) total (evened lows₂ highs₂ total)
       figures-alike =
           let (reach, divided) = division row low high left (growing sound held pin found enough) in
           let one : Reached lows₁ highs₁ total (row .mark) (reach .growing) (reach .level) (reach .over) = reached sound held pin found enough reach divided in

@@ -4,7 +4,8 @@ use mathlib.Core.List.{List}
 use mathlib.Core.Path.{_≡_}
 use native.Mathlib.Omega.{arith}
 use Rattle.model.specs.Shares.{greatestShare, greatestTotal, sumOf, mostUnits}
-use Rattle.model.specs.Levels.{clamp, clamped, topped}
+use Rattle.model.specs.Levels.{clamp, clamped}
+use Rattle.model.specs.Ways.{topped}
 use Rattle.probe.specs.declared.pinned.Reach.{Reach}
 use Rattle.probe.specs.declared.rows.Row.{Row}
 use Rattle.probe.specs.Inner.Tables.{SoundWithTotal, square}

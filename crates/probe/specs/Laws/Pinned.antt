@@ -1,5 +1,5 @@
 -- A group with one member pinned: its sums from the group's own, the level that its total reaches, and its figures there. Assumes nothing.
-use Prim.Native.Nat.{ℕ, suc, _+_, _-_, _*_, _≤_, _<_}
+use Prim.Native.Nat.{ℕ, zero, suc, _+_, _-_, _*_, _≤_, _<_}
 use mathlib.Core.List.{List}
 use mathlib.Core.Path.{_≡_, refl, sym, ap, _∙_}
 use native.Mathlib.Decide.{decLe, decLt}
@@ -9,12 +9,13 @@ use lib.ListN.{length, getD, set, length-set}
 use borrow.Author.Tests.{le-leb, lt-leb, lt-ltb, le-ltb}
 use Rattle.model.specs.Shares.{Ranges, Within, greatestShare, sum, sumOf}
 use Rattle.model.specs.Figures.{deviation, spread, pairs, figuresOf}
-use Rattle.model.specs.Levels.{clamp, clamped, totalAt, growth, topped, levelled}
+use Rattle.model.specs.Levels.{clamp, clamped, totalAt, growth}
+use Rattle.model.specs.Ways.{topped, evened}
 use Rattle.model.specs.Laws.Least.{least}
 use Rattle.model.specs.Laws.Lists.{ranges-at, ranges-length, sum-sumOf}
-use Rattle.model.specs.Laws.Levelled.{topped-between, topped-within, topped-near, topped-adds, near-even, levelled-within, levelled-adds, shares-exist}
+use Rattle.model.specs.Laws.Levelled.{topped-between, topped-within, topped-near, topped-adds, near-even, evened-within, evened-adds, shares-exist}
 use Rattle.model.specs.Laws.Pairs.{pairs-schur}
-use Rattle.model.specs.Laws.Plans.{levelled-least}
+use Rattle.model.specs.Laws.Plans.{evened-least}
 use Rattle.model.specs.Laws.Pinned.{pinned-ranges}
 use Rattle.model.specs.Transfers.{SchurConvex}
 use Rattle.model.specs.Laws.Transfer.{deviation-schur, spread-schur}
@@ -87,7 +88,12 @@ pinned-span {low = low} {high = high} {m = m} {w = w} pin span f x from upTo =
 
 -- at a mark whose T is the total, nothing is left over
 pub reached-mark : (lows highs : List ℕ) (total m : ℕ) → m ≤ greatestShare → totalAt lows highs m ≡ total → Reached lows highs total m 0 m 0
-reached-mark lows highs total m share holds = record { share = share; holds = omega arith; fits = omega arith; sums = λ f. omega arith }
+reached-mark lows highs total m share holds = record { share = share; holds = omega arith; fits = omega arith; spare = λ some. absurd (omega arith); sums = λ f. omega arith }
+
+-- copies that leave some members without one, or none at all, can be taken
+spared : (r grows : ℕ) → (0 < r → r < grows) → r ≤ grows
+spared zero grows fewer = omega arith
+spared (suc r) grows fewer = omega (arith, fewer (omega arith))
 
 -- sums that move evenly from m to w, with a moving up and b moving down
 abbrev pub Moving : List ℕ → List ℕ → ℕ → ℕ → ℕ → ℕ → Type 0
@@ -131,15 +137,16 @@ module _ (lows highs : List ℕ) (total m w a b : ℕ) (rises : m ≤ w) (more :
       let less : suc d ≤ q = omega arith in omega (arith, rw e at (total-at d (omega arith)), mul-le-mul-left c less)) in
       let here : totalAt lows highs (m + q) ≡ totalAt lows highs m + c * q = total-at q (omega arith) in
       let suc-out : m + suc q ≡ suc (m + q) = omega arith in
-      let fits : r ≤ totalAt lows highs (suc (m + q)) - totalAt lows highs (m + q) =
-      elim (decLt q d) [
+      let spare : 0 < r → r < totalAt lows highs (suc (m + q)) - totalAt lows highs (m + q) =
+      (λ some. elim (decLt q d) [
         | yes less ↦ omega (arith, rw suc-out at (total-at (suc q) (omega arith)), here)
-        | no none ↦ let same : q ≡ d = omega arith in omega (arith, rw e at (total-at d (omega arith)), ap (λ (t : ℕ). c * t) same)
-      ] in
+        | no none ↦ let same : q ≡ d = omega arith in absurd (omega (arith, rw e at (total-at d (omega arith)), ap (λ (t : ℕ). c * t) same))
+      ]) in
       record {
         share = omega arith;
         holds = omega arith;
-        fits = fits;
+        fits = spared r _ spare;
+        spare = spare;
         sums = λ f. even f (m + q) (omega arith) (omega arith);
       }
 
@@ -156,16 +163,16 @@ module _ {lows highs : List ℕ} {total m c w r : ℕ} (ranges : Ranges lows hig
       omega (arith, reached .sums f)
 
   -- they are even, so that the levelled shares have no other figure that an exchange never raises
-  reached-figure : (F : List ℕ → ℕ) → SchurConvex F → F (levelled lows highs total) ≡ F (topped lows highs w r)
+  reached-figure : (F : List ℕ → ℕ) → SchurConvex F → F (evened lows highs total) ≡ F (topped lows highs w r)
   reached-figure F convex =
       let inside : Within lows highs (topped lows highs w r) = topped-within ranges w r in
       let exist : (sum lows ≤ total) × (total ≤ sum highs) = shares-exist ranges total .0 (topped lows highs w r, inside, reached-adds) in
       le-antisymm
-      (levelled-least ranges total inside reached-adds F convex)
-      (least convex inside (near-even (topped-near ranges w r)) (levelled-within ranges total)
-      (levelled-adds ranges total (exist .0) (exist .1) ∙ sym reached-adds))
+      (evened-least ranges total inside reached-adds F convex)
+      (least convex inside (near-even (topped-near ranges w r)) (evened-within ranges total)
+      (evened-adds ranges total (exist .0) (exist .1) ∙ sym reached-adds))
 
   -- so the same figures
-  pub reached-figures : (n : ℕ) → figuresOf n total (levelled lows highs total) ≡ figuresOf n total (topped lows highs w r)
+  pub reached-figures : (n : ℕ) → figuresOf n total (evened lows highs total) ≡ figuresOf n total (topped lows highs w r)
   reached-figures n =
       rw (reached-figure (deviation n total) (deviation-schur n total), reached-figure (spread n total) (spread-schur n total), reached-figure pairs pairs-schur)

@@ -6,7 +6,8 @@ use native.Mathlib.Omega.{arith}
 use lib.ListN.{length}
 use Rattle.model.specs.Shares.{Ranges, sumOf, mostUnits}
 use Rattle.model.specs.Figures.{apart, pairs}
-use Rattle.model.specs.Levels.{clamp, clamped, topped}
+use Rattle.model.specs.Levels.{clamp, clamped}
+use Rattle.model.specs.Ways.{topped}
 use Rattle.model.specs.Laws.Levelled.{topped-between, topped-adds}
 use Rattle.probe.specs.declared.distances.Distances.{Distances}
 use Rattle.probe.specs.Inner.Distances.{mostPairs, LowsPassed, DistancesAt}

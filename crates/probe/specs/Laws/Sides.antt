@@ -8,7 +8,8 @@ use native.Mathlib.Omega.{arith}
 use lib.ListN.{length}
 use Rattle.model.specs.Shares.{Ranges, greatestShare, sum, sumOf, mostUnits}
 use Rattle.model.specs.Figures.{deviation}
-use Rattle.model.specs.Levels.{clamp, clamped, topped}
+use Rattle.model.specs.Levels.{clamp, clamped}
+use Rattle.model.specs.Ways.{topped}
 use Rattle.model.specs.Laws.Deviation.{deviation-twice, deviation-twice-below}
 use Rattle.model.specs.Laws.Levelled.{topped-within}
 use Rattle.model.specs.Laws.Lists.{ranges-at, within-length}

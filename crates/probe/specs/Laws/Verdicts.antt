@@ -11,7 +11,8 @@ use lib.ListN.{length}
 use borrow.Author.Tests.{le-leb, lt-leb, le-ltb}
 use Rattle.model.specs.Shares.{Ranges, Within, greatestShare, greatestTotal, sum, sumOf, mostUnits}
 use Rattle.model.specs.Figures.{met, allows, figuresOf, deviation, spread, pairs}
-use Rattle.model.specs.Levels.{clamped, totalAt, growth, topped, levelled}
+use Rattle.model.specs.Levels.{clamped, totalAt, growth}
+use Rattle.model.specs.Ways.{topped, evened}
 use Rattle.model.specs.Plans.{hasPlan}
 use Rattle.model.specs.declared.Figures.{Figures}
 use Rattle.model.specs.declared.Limits.{Limits}
@@ -79,7 +80,7 @@ module _ {lows highs lows′ highs′ : List ℕ} {total low high v : ℕ} (soun
       deviation = record { 0 = d };
       spread = record { 0 = length lows * q - total * total };
       pairs = record { 0 = pairs (topped lows′ highs′ w r) };
-    } ≡ figuresOf (length lows′) total (levelled lows′ highs′ total)
+    } ≡ figuresOf (length lows′) total (evened lows′ highs′ total)
     unfolding spread
     pinned-figures = rw (reached-figures (pin .ranges) reached (length lows′), pin .count, is-deviation, is-squares)
 
@@ -125,7 +126,7 @@ module _ {lows highs lows′ highs′ : List ℕ} {total low high v : ℕ} (soun
     -- where they do, the figures of the levelled shares decide
     pub decided : (limits : Limits) → pinnedTotal (rowAt table 0) low high v ≤ total
         → total ≤ pinnedTotal (rowAt table (lastRow table)) low high v
-        → {figures : Figures} → figures ≡ figuresOf (length lows′) total (levelled lows′ highs′ total)
+        → {figures : Figures} → figures ≡ figuresOf (length lows′) total (evened lows′ highs′ total)
         → met limits figures ≡ hasPlan lows′ highs′ total limits
     unfolding hasPlan
     decided limits least greatest are =

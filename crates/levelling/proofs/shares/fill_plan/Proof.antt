@@ -1,37 +1,64 @@
--- The shares of the members passed are written, and those of the others are still to come. Assumes nothing.
+-- The shares of the members passed are written, and the bar tells those of the others.  Assumes nothing.
 use borrow.Author.Needs.{needs}
 use native.Mathlib.Omega.{arith}
-use Prim.Native.Nat.{_-_, _≤_}
-use lib.ListN.{length}
-use Rattle.model.specs.Laws.Lists.{ranges-at}
-use Rattle.model.specs.Laws.Walk.{SharesWritten, written-none, written-step, written-all}
+use mathlib.Core.List.{List}
+use mathlib.Core.Path.{_≡_, sym, _∙_}
+use Prim.Native.Nat.{ℕ, _-_, _≤_}
+use lib.ListN.{length, drop}
+use lib.Seq.{length-take-le, drop-at}
+use Rattle.model.specs.Laws.Bars.{taken-most}
 use Rattle.model.specs.Laws.Bounds.{share-at-small}
+use Rattle.model.specs.Laws.Lists.{ranges-at}
+use Rattle.model.specs.Laws.Walk.{Handing, handing-none, handing-step, written-all}
 use Rattle.levelling.proofs.shares.fill_plan.Statement.{statement}
 use Rattle.levelling.proofs.shares.fill_plan.Tie as tie
 
 abbrev Inv-loop : tie.InvT-loop
-Inv-loop lows highs v left plan₀ rest₀ i₀ plan rest i = (i ≤ length lows) × SharesWritten lows highs v left rest i plan₀ plan
+Inv-loop lows highs v left plan₀ count bar rest₀ i₀ plan rest i =
+    (i ≤ length lows) × (v ≤ bar) × (length lows ≤ length plan₀) × Handing lows highs v left bar rest i plan₀ plan
 
 abbrev μ-loop : tie.MeasureT-loop
-μ-loop lows highs v left plan₀ rest₀ i₀ plan rest i = length lows - i
+μ-loop lows highs v left plan₀ count bar rest₀ i₀ plan rest i = length lows - i
+
+slice-relend-prefix-bar-for : tie.Need-slice-relend-prefix-bar-for Inv-loop μ-loop
+slice-relend-prefix-bar-for c = search needs
+
+slice-aggregate-bar-for : tie.Need-slice-aggregate-bar-for Inv-loop μ-loop
+slice-aggregate-bar-for c = sym (length-take-le _ _ (slice-relend-prefix-bar-for (c .before)))
+
+bar-for-requires : tie.Need-bar-for-requires Inv-loop μ-loop
+bar-for-requires c κs = (c .before .before .before .before .pre .0, length-take-le _ _ (slice-relend-prefix-bar-for (c .before)))
+
+-- the plan keeps its length and its numbers past the members while its front is room to work in
+module _ (c : tie.After-bar-for Inv-loop μ-loop) where
+  abbrev from : tie.Start Inv-loop μ-loop
+  from = c .before .before .before .before .before
+
+  abbrev front : List ℕ
+  front = c .bar-for .last .1 .1 .1 .1 .0
+
+  many : length front ≡ length (from .args .lows .now)
+  many = c .bar-for .kept .1 .1 .1 .1 .0 ∙ length-take-le _ _ (slice-relend-prefix-bar-for (c .before .before))
 
 loop-holds : tie.Need-loop-holds Inv-loop μ-loop
-loop-holds c = (search needs, written-none _ _ _ _ _)
+loop-holds c =
+    let found = c .before .before in
+    (omega arith, found .bar-for .ensures .1, search needs, handing-none (found .bar-for .ensures .0) _)
 
-mul-extra : tie.Need-mul-extra Inv-loop μ-loop
-mul-extra c = search needs
+mul-take-copy : tie.Need-mul-take-copy Inv-loop μ-loop
+mul-take-copy c = search needs
 
-shared-slice-read-extra : tie.Need-shared-slice-read-extra Inv-loop μ-loop
-shared-slice-read-extra c = search needs
+shared-slice-read-take-copy : tie.Need-shared-slice-read-take-copy Inv-loop μ-loop
+shared-slice-read-take-copy c = search needs
 
-mul-extra-2 : tie.Need-mul-extra-2 Inv-loop μ-loop
-mul-extra-2 c = search needs
+mul-take-copy-2 : tie.Need-mul-take-copy-2 Inv-loop μ-loop
+mul-take-copy-2 c = search needs
 
-shared-slice-read-extra-2 : tie.Need-shared-slice-read-extra-2 Inv-loop μ-loop
-shared-slice-read-extra-2 c = search needs
+shared-slice-read-take-copy-2 : tie.Need-shared-slice-read-take-copy-2 Inv-loop μ-loop
+shared-slice-read-take-copy-2 c = search needs
 
-extra-requires : tie.Need-extra-requires Inv-loop μ-loop
-extra-requires c κs = search needs
+take-copy-requires : tie.Need-take-copy-requires Inv-loop μ-loop
+take-copy-requires c κs = search needs
 
 mul-clamp : tie.Need-mul-clamp Inv-loop μ-loop
 mul-clamp c = search needs
@@ -48,22 +75,25 @@ shared-slice-read-clamp-2 c = search needs
 clamp-requires : tie.Need-clamp-requires Inv-loop μ-loop
 clamp-requires c κs =
     let turn = c .before .before .before .before .before .before in
-    ranges-at (turn .before .before .before .before .pre .0 .ranges) (turn .loop .i) (omega arith) .0
+    ranges-at (from (turn .before .before .before) .pre .0 .sound .ranges) (turn .loop .i) (omega arith) .0
 
--- the start and the loop's turn, seen from the member's share on
-module _ (c : tie.After-clamp Inv-loop μ-loop) where
-  abbrev start : tie.Start Inv-loop μ-loop
-  start = c .before .before .before .before .before .before .before .before .before .before .before
-
+-- the start, the loop's turn and what the member takes, seen from its share on
+module _ (c : tie.After-struct-known Inv-loop μ-loop) where
   abbrev turn : tie.At-loop Inv-loop μ-loop
-  turn = c .before .before .before .before .before .before .before
+  turn = c .before .before .before .before .before .before .before .before
+
+  abbrev start : tie.Start Inv-loop μ-loop
+  start = from (turn .before .before .before)
+
+  abbrev taken : tie.After-take-copy Inv-loop μ-loop
+  taken = c .before .before .before .before
 
 add-plan : tie.Need-add-plan Inv-loop μ-loop
 add-plan c =
     omega (
       arith,
-      share-at-small (start c .pre .0) (turn c .loop .i) (start c .args .v) (turn c .loop .rest) (c .clamp .result)
-          (c .before .before .before .extra .result) (omega arith) (c .clamp .ensures) (c .before .before .before .extra .ensures),
+      share-at-small (start c .pre .0 .sound) (turn c .loop .i) (start c .args .v) (c .before .clamp .result) (taken c .take-copy .result .more)
+          (omega arith) (c .before .clamp .ensures) (taken-most (taken c .take-copy .ensures)),
     )
 
 mul-plan : tie.Need-mul-plan Inv-loop μ-loop
@@ -71,9 +101,6 @@ mul-plan c = search needs
 
 slice-write-plan : tie.Need-slice-write-plan Inv-loop μ-loop
 slice-write-plan c = search needs
-
-sub-rest : tie.Need-sub-rest Inv-loop μ-loop
-sub-rest c = search needs
 
 add-i : tie.Need-add-i Inv-loop μ-loop
 add-i c = search needs
@@ -83,21 +110,28 @@ loop-less c = search needs
 
 loop-again : tie.Need-loop-again Inv-loop μ-loop
 loop-again c =
-    let s = start c in (
+    let s = start c in
+    let so-far = turn c .loop .inv in (
       search needs,
-      written-step (s .args .lows .now) (s .args .highs .now) (turn c .loop .i) (omega arith) (omega arith) (s .args .v) (s .args .left)
-          (turn c .loop .rest) (c .clamp .result) (c .before .before .before .extra .result) (s .args .plan .now) (turn c .loop .plan)
-          (omega arith) (c .clamp .ensures) (c .before .before .before .extra .ensures) (turn c .loop .inv .1),
+      so-far .1,
+      so-far .2,
+      handing-step (s .args .lows .now) (s .args .highs .now) (turn c .loop .i) (omega arith) (omega (arith, s .pre .0 .sound .paired)) (s .args .v) (s .args .left)
+          _ (turn c .loop .rest) (c .before .clamp .result) _ _ _ (turn c .loop .plan)
+          (omega arith) (c .before .clamp .ensures) (taken c .take-copy .ensures) (so-far .3),
     )
 
 same-length : tie.Need-same-length Inv-loop μ-loop
-same-length c = c .before .loop .inv .1 .size
+same-length c = search needs
 
 returns : tie.Need-returns Inv-loop μ-loop
 returns c =
-    let s = c .before .before .before .before .before in
-    written-all (s .args .lows .now) (s .args .highs .now) (s .args .v) (s .args .left) (c .before .loop .rest) (c .before .loop .i)
-    (s .args .plan .now) (c .before .loop .plan) (omega arith) (c .before .loop .inv .1)
+    let turn = c .before in
+    let found = turn .before .before .before in
+    let s = from found in
+    let n = length (s .args .lows .now) in
+    rw (drop-at (front found) (drop n (s .args .plan .now)) n (many found)) at
+    (written-all (s .args .lows .now) (s .args .highs .now) (s .args .v) (s .args .left) (turn .loop .inv .3 .copies) (turn .loop .i)
+    _ (turn .loop .plan) (omega arith) (turn .loop .inv .3 .written))
 
 pub fill-plan-spec : {M : Type 1} → statement M
 fill-plan-spec =
@@ -105,12 +139,15 @@ fill-plan-spec =
     (tie.spec
     Inv-loop
     μ-loop
+    slice-relend-prefix-bar-for
+    slice-aggregate-bar-for
+    bar-for-requires
     loop-holds
-    mul-extra
-    shared-slice-read-extra
-    mul-extra-2
-    shared-slice-read-extra-2
-    extra-requires
+    mul-take-copy
+    shared-slice-read-take-copy
+    mul-take-copy-2
+    shared-slice-read-take-copy-2
+    take-copy-requires
     mul-clamp
     shared-slice-read-clamp
     mul-clamp-2
@@ -119,7 +156,6 @@ fill-plan-spec =
     add-plan
     mul-plan
     slice-write-plan
-    sub-rest
     add-i
     loop-less
     loop-again

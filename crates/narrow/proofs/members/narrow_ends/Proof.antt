@@ -1,46 +1,47 @@
--- The ends of the members passed are written, and the levelled shares of the others are still to come. Assumes nothing.
+-- The ends of the members passed are written. Assumes nothing.
 use borrow.Author.Needs.{needs}
 use native.Mathlib.Omega.{arith}
 use mathlib.Core.Bool.{Bool}
 use mathlib.Core.List.{List}
-use mathlib.Core.Path.{_≡_, refl, sym, _∙_}
-use Prim.Native.Nat.{ℕ, _+_, _-_, _≤_, _<_}
+use mathlib.Core.Path.{_≡_, sym, subst, _∙_}
+use Prim.Native.Nat.{ℕ, _+_, _-_, _≤_, _<_, min}
 use lib.ListN.{length, getD}
-use Rattle.model.specs.Levels.{topped}
-use Rattle.model.specs.Laws.Bounds.{share-at-small}
+use Rattle.model.specs.Levels.{clamp, growth}
+use Rattle.model.specs.Shares.{pick}
 use Rattle.model.specs.Laws.Lists.{ranges-at}
-use Rattle.model.specs.Laws.Walk.{Ahead, ahead-share, ahead-step}
 use Rattle.model.specs.Laws.Writing.{Filled, filled-none, filled-more, filled-all}
 use Rattle.narrow.specs.Inner.Edges.{Planned}
 use Rattle.narrow.specs.Inner.Known.{SharedHolds}
 use Rattle.narrow.specs.Inner.Members.{narrowedEnds}
-use Rattle.narrow.specs.Laws.Ends.{levelled-planned}
+use Rattle.narrow.specs.Laws.Ends.{near-planned}
 use Rattle.narrow.specs.Laws.Known.{nothing-known, seen-reached}
 use Rattle.narrow.specs.Laws.Members.{ends-length, ends-at, to-end, end-reached}
 use Rattle.narrow.proofs.members.narrow_ends.Statement.{statement}
 use Rattle.narrow.proofs.members.narrow_ends.Tie as tie
 
 abbrev Inv-loop : tie.InvT-loop
-Inv-loop lows highs table question ends₀ terms row v up left₀ shared₀ next₀ ends left shared next =
+Inv-loop lows highs table question ends₀ terms row v up copies shared₀ next₀ ends shared next =
     (next ≤ length lows)
     × Filled (narrowedEnds up lows highs (question .total) (question .limits)) ends₀ ends next
-    × Ahead lows highs v left₀ left next
     × SharedHolds lows highs (question .total) (question .limits) shared
 
 abbrev μ-loop : tie.MeasureT-loop
-μ-loop lows highs table question ends₀ terms row v up left₀ shared₀ next₀ ends left shared next = length lows - next
+μ-loop lows highs table question ends₀ terms row v up copies shared₀ next₀ ends shared next = length lows - next
 
 -- the function's start, seen from the loop
 abbrev start : tie.At-loop Inv-loop μ-loop → tie.Start Inv-loop μ-loop
-start t = t .before .before .before .before .before .before .before
+start t = t .before .before .before .before .before .before .before .before
+
+end-of-requires : tie.Need-end-of-requires Inv-loop μ-loop
+end-of-requires c κs = search needs
 
 nothing-known-requires : tie.Need-nothing-known-requires Inv-loop μ-loop
 nothing-known-requires c κs = search needs
 
 loop-holds : tie.Need-loop-holds Inv-loop μ-loop
 loop-holds c =
-    let s = c .before .before .before .before .before .before in
-    (omega arith, filled-none _ _, refl, nothing-known (s .pre .0 .has .sound .ranges) (c .nothing-known .ensures))
+    let s = c .before .before .before .before .before .before .before in
+    (omega arith, filled-none _ _, nothing-known (s .pre .0 .has .sound .ranges) (c .nothing-known .ensures))
 
 add-next : tie.Need-add-next Inv-loop μ-loop
 add-next c = omega (arith, start (c .before) .pre .0 .has .sound .few)
@@ -57,16 +58,16 @@ mul-high c = omega (arith, start (c .before .before) .pre .0 .has .sound .few)
 shared-slice-read-high : tie.Need-shared-slice-read-high Inv-loop μ-loop
 shared-slice-read-high c = omega (arith, start (c .before .before .before) .pre .0 .has .sound .paired)
 
+clamp-requires : tie.Need-clamp-requires Inv-loop μ-loop
+clamp-requires c κs =
+    let turn = c .before .before .before in
+    ranges-at (start turn .pre .0 .has .sound .ranges) (turn .loop .next) (omega arith) .0
+
 extra-requires : tie.Need-extra-requires Inv-loop μ-loop
 extra-requires c κs = search needs
 
-clamp-requires : tie.Need-clamp-requires Inv-loop μ-loop
-clamp-requires c κs =
-    let turn = c .before .before .before .before in
-    ranges-at (start turn .pre .0 .has .sound .ranges) (turn .loop .next) (omega arith) .0
-
 -- the loop's turn and the member's share
-module _ (c : tie.After-clamp Inv-loop μ-loop) where
+module _ (c : tie.After-extra Inv-loop μ-loop) where
   abbrev turn : tie.At-loop Inv-loop μ-loop
   turn = c .before .before .before .before .before
 
@@ -82,30 +83,23 @@ module _ (c : tie.After-clamp Inv-loop μ-loop) where
   abbrev v : ℕ
   v = from .args .asked .levelled .level
 
-  abbrev left : ℕ
-  left = from .args .asked .levelled .over
-
   abbrev up : Bool
   up = from .args .asked .up
 
   abbrev i : ℕ
   i = turn .loop .next
 
-  abbrev more : ℕ
-  more = c .before .extra .result
-
   abbrev share : ℕ
-  share = c .clamp .result + more
+  share = c .before .clamp .result + c .extra .result
 
-  -- the share is the one at the level, which some plan gives the member
-  is-share : share ≡ getD (topped lows highs v left) i 0
-  is-share = sym (ahead-share lows highs i (omega arith) (omega (arith, from .pre .0 .has .sound .paired)) v left (turn .loop .left) (c .clamp .result) more (c .clamp .ensures) (c .before .extra .ensures) (turn .loop .inv .2))
+  -- the share is one that some plan gives the member
+  is-share : clamp (getD lows i 0) (getD highs i 0) v + min (pick up (from .args .asked .levelled .over) 0) (growth (getD lows i 0) (getD highs i 0) v) ≡ share
+  is-share = omega (arith, c .before .clamp .ensures, c .extra .ensures, turn .before .before .end-of .ensures)
 
   planned : Planned lows highs (from .args .question .total) (from .args .question .limits) i share
-  planned = rw is-share (levelled-planned (from .pre .0 .has) (from .pre .0 .reached) i (omega arith))
-
-  next : Ahead lows highs v left (turn .loop .left - more) (i + 1)
-  next = ahead-step lows highs i (omega arith) (omega (arith, from .pre .0 .has .sound .paired)) v left (turn .loop .left) (c .clamp .result) more (c .clamp .ensures) (c .before .extra .ensures) (turn .loop .inv .2)
+  planned =
+      subst (λ (x : ℕ). Planned lows highs (from .args .question .total) (from .args .question .limits) i x) is-share
+      (near-planned (from .pre .0 .has) (from .pre .0 .reached) i (omega arith) up)
 
   -- the narrowed list is as long as the group, and there is room for it
   many : length (narrowedEnds up lows highs (from .args .question .total) (from .args .question .limits)) ≡ length lows
@@ -115,13 +109,10 @@ module _ (c : tie.After-clamp Inv-loop μ-loop) where
   room = omega (arith, turn .loop .inv .1 .size, from .pre .1)
 
 add-share : tie.Need-add-share Inv-loop μ-loop
-add-share c = omega (arith, share-at-small (from c .pre .0 .has .sound) (i c) (v c) (turn c .loop .left) (c .clamp .result) (more c) (omega arith) (c .clamp .ensures) (c .before .extra .ensures))
+add-share c = omega (arith, planned c .high, ranges-at (from c .pre .0 .has .sound .ranges) (i c) (omega arith))
 
-sub-left : tie.Need-sub-left Inv-loop μ-loop
-sub-left c = search needs
-
-end-of-requires : tie.Need-end-of-requires Inv-loop μ-loop
-end-of-requires c κs = search needs
+end-of-requires-2 : tie.Need-end-of-requires-2 Inv-loop μ-loop
+end-of-requires-2 c κs = search needs
 
 seen-at-requires : tie.Need-seen-at-requires Inv-loop μ-loop
 seen-at-requires c κs = search needs
@@ -140,12 +131,11 @@ loop-again c =
     let e = c .before .before in
     let m = e .before in
     let inv = turn m .loop .inv in
-    let seen = rw (e .end-of .ensures) at (c .before .seen-at .ensures (c .if1 .taken)) in
-    let is = end-reached (planned m) (up m) (seen-reached (to-end (planned m) (up m) (from m .pre .0 .tabled)) (inv .3) seen) in (
+    let seen = rw (e .end-of2 .ensures) at (c .before .seen-at .ensures (c .if1 .taken)) in
+    let is = end-reached (planned m) (up m) (seen-reached (to-end (planned m) (up m) (from m .pre .0 .tabled)) (inv .2) seen) in (
       omega arith,
       filled-more (inv .1) (omega (arith, many m)) (omega (arith, from m .pre .1)) _ (is ∙ sym (ends-at _ _ _ _ (up m) (i m) (omega arith))),
-      next m,
-      inv .3,
+      inv .2,
     )
 
 search-requires : tie.Need-search-requires Inv-loop μ-loop
@@ -153,7 +143,7 @@ search-requires c κs =
     let e = c .before .before in
     let m = e .before in
     let p = from m .pre .0 in
-    (rw (e .end-of .ensures) (to-end (planned m) (up m) (p .tabled)), (p .termed, turn m .loop .inv .3))
+    (rw (e .end-of2 .ensures) (to-end (planned m) (up m) (p .tabled)), (p .termed, turn m .loop .inv .2))
 
 mul-ends-2 : tie.Need-mul-ends-2 Inv-loop μ-loop
 mul-ends-2 c = omega (arith, from (c .before .before .before .before) .pre .0 .has .sound .few)
@@ -170,10 +160,9 @@ loop-again-2 c =
     let e = c .before .before .before .before in
     let m = e .before in
     let inv = turn m .loop .inv in
-    let is = end-reached (planned m) (up m) (rw (e .end-of .ensures) at (found .reaches)) in (
+    let is = end-reached (planned m) (up m) (rw (e .end-of2 .ensures) at (found .reaches)) in (
       omega arith,
       filled-more (inv .1) (omega (arith, many m)) (omega (arith, from m .pre .1)) _ (is ∙ sym (ends-at _ _ _ _ (up m) (i m) (omega arith))),
-      next m,
       found .known,
     )
 
@@ -193,6 +182,7 @@ narrow-ends-spec =
     (tie.spec
     Inv-loop
     μ-loop
+    end-of-requires
     nothing-known-requires
     loop-holds
     add-next
@@ -200,11 +190,10 @@ narrow-ends-spec =
     shared-slice-read-low
     mul-high
     shared-slice-read-high
-    extra-requires
     clamp-requires
+    extra-requires
     add-share
-    sub-left
-    end-of-requires
+    end-of-requires-2
     seen-at-requires
     mul-ends
     slice-write-ends

@@ -1,0 +1,145 @@
+-- Copies handed out by headroom go to the members with the most headroom first, and among equals to the earlier. Assumes nothing.
+use Prim.Native.Nat.{ℕ, zero, suc, _+_, _-_, _≤_, _<_}
+use mathlib.Core.Bool.{Bool, true, false}
+use mathlib.Core.List.{List, [], _∷_}
+use mathlib.Core.Logic.{_⊎_, inl, inr}
+use mathlib.Core.Path.{_≡_, refl, ap}
+use native.Mathlib.Decide.{decLe, decLt, ℕ-discrete}
+use native.Mathlib.Nat.{le-of-suc-le-suc}
+use native.Mathlib.Omega.{arith, by-contra}
+use lib.Dec.{ltb}
+use lib.ListN.{length, getD}
+use borrow.Author.Tests.{ltb-true, ltb-false}
+use Rattle.model.specs.Shares.{pick, Ranges}
+use Rattle.model.specs.Levels.{clamp, growth, headroom, roomier, byHeadroom, level, remainder, levelled}
+use Rattle.model.specs.Ways.{CanTake, HeadroomFirst}
+use Rattle.model.specs.Laws.Headroom.{Growing, growing, growth-one, growth-most, isAhead, headroomCopy, ahead-above, ahead-none, ahead-most, ahead-rests, roomier-cons, roomier-falls}
+
+-- whether a member takes one: it does where fewer later ones have more headroom than copies are left
+pub data Takes (ahead left g : ℕ) : ℕ → Type 0 where
+  one : ahead < left → Takes ahead left g g
+  spared : left ≤ ahead → Takes ahead left g 0
+
+takes : (ahead left g : ℕ) → Takes ahead left g (pick (ltb ahead left) g 0)
+takes ahead left g = by (ltb ahead left) refl
+  where
+    by : (b : Bool) → ltb ahead left ≡ b → Takes ahead left g (pick b g 0)
+    by true is = Takes.one (ltb-true ahead left is)
+    by false is = Takes.spared (ltb-false ahead left is)
+
+-- at most what it can
+more-most : {ahead left g more : ℕ} → Takes ahead left g more → more ≤ g
+more-most (Takes.one fewer) = omega arith
+more-most (Takes.spared enough) = omega arith
+
+-- what a member that can take one has: v, and a copy more where one is taken
+share-at : {l h v : ℕ} → l ≤ v → v < h → (ahead left : ℕ) (more : ℕ) → Takes ahead left (growth l h v) more
+    → (v < clamp l h v + more → ahead < left) × (clamp l h v + more ≤ v → left ≤ ahead)
+share-at {l} {h} {v} low high ahead left more (Takes.one fewer) = (λ has. fewer, λ not. absurd (omega (arith, growth-one low high)))
+share-at {l} {h} {v} low high ahead left more (Takes.spared enough) = (λ has. absurd (omega arith), λ not. enough)
+
+-- a member that has a copy has fewer members ahead than there are copies
+has-copy : (lows highs : List ℕ) (v left i : ℕ) → i < length (byHeadroom lows highs v left) → CanTake lows highs v i
+    → v < getD (byHeadroom lows highs v left) i 0 → roomier lows highs v (getD highs i 0) < left
+unfolding byHeadroom roomier
+has-copy [] highs v left i inside can has = absurd (omega arith)
+has-copy (l ∷ ls) [] v left i inside can has = absurd (omega arith)
+has-copy (l ∷ ls) (h ∷ hs) v left zero inside can has =
+    omega (arith, ahead-none l h v {t = h} (omega arith), share-at (can .0) (can .1) (roomier ls hs v h) left _ (takes (roomier ls hs v h) left (growth l h v)) .0 has)
+has-copy (l ∷ ls) (h ∷ hs) v left (suc i) inside can has =
+    by (headroomCopy ls hs v left l h) (takes (roomier ls hs v h) left (growth l h v))
+    (has-copy ls hs v (left - headroomCopy ls hs v left l h) i (le-of-suc-le-suc inside) can has)
+  where
+    t : ℕ
+    t = getD hs i 0
+
+    by : (more : ℕ) → Takes (roomier ls hs v h) left (growth l h v) more → roomier ls hs v t < left - more
+        → isAhead l h v t + roomier ls hs v t < left
+    by more (Takes.one fewer) rest = omega (arith, ahead-most l h v t)
+    by more (Takes.spared enough) rest = elim (decLt t h) [
+      | yes less ↦ absurd (omega (arith, roomier-falls ls hs v {t = t} {u = h} (omega arith)))
+      | no not ↦ omega (arith, ahead-none l h v {t = t} (omega arith))
+    ]
+
+-- one that has none leaves all copies to others with at least its headroom
+has-none : (lows highs : List ℕ) (v left i u : ℕ) → i < length (byHeadroom lows highs v left) → CanTake lows highs v i
+    → suc u ≡ getD highs i 0 → getD (byHeadroom lows highs v left) i 0 ≤ v → left < roomier lows highs v u
+unfolding byHeadroom roomier
+has-none [] highs v left i u inside can next none = absurd (omega arith)
+has-none (l ∷ ls) [] v left i u inside can next none = absurd (omega arith)
+has-none (l ∷ ls) (h ∷ hs) v left zero u inside can next none =
+    omega (
+      arith,
+      share-at (can .0) (can .1) (roomier ls hs v h) left _ (takes (roomier ls hs v h) left (growth l h v)) .1 none,
+      ahead-above l h v {t = u} (omega (arith, can .1)) (omega arith),
+      growth-one (can .0) (can .1),
+      roomier-falls ls hs v {t = u} {u = h} (omega arith),
+    )
+has-none (l ∷ ls) (h ∷ hs) v left (suc i) u inside can next none =
+    by (headroomCopy ls hs v left l h) (takes (roomier ls hs v h) left (growth l h v))
+    (has-none ls hs v (left - headroomCopy ls hs v left l h) i u (le-of-suc-le-suc inside) can next none)
+  where
+    by : (more : ℕ) → Takes (roomier ls hs v h) left (growth l h v) more → left - more < roomier ls hs v u
+        → left < isAhead l h v u + roomier ls hs v u
+    by more (Takes.spared enough) rest = omega arith
+    by more (Takes.one fewer) rest = elim (decLt u h) [
+      | yes less ↦ omega (arith, ahead-above l h v {t = u} (omega (arith, can .1)) less)
+      | no not ↦ omega (arith, growth-most l h v, roomier-falls ls hs v {t = h} {u = u} (omega arith))
+    ]
+
+-- so of two that can take one, the one that has it has more headroom, or as much and is the earlier
+first-of : (lows highs : List ℕ) (v left i j : ℕ) → i < length (byHeadroom lows highs v left) → j < length (byHeadroom lows highs v left)
+    → CanTake lows highs v i → CanTake lows highs v j → getD (byHeadroom lows highs v left) i 0 ≤ v → v < getD (byHeadroom lows highs v left) j 0
+    → (headroom (getD highs i 0) v < headroom (getD highs j 0) v) ⊎ ((headroom (getD highs i 0) v ≡ headroom (getD highs j 0) v) × (j < i))
+unfolding byHeadroom
+first-of [] highs v left i j inI inJ canI canJ none has = absurd (omega arith)
+first-of (l ∷ ls) [] v left i j inI inJ canI canJ none has = absurd (omega arith)
+first-of (l ∷ ls) (h ∷ hs) v left zero zero inI inJ canI canJ none has = absurd (omega arith)
+first-of (l ∷ ls) (h ∷ hs) v left zero (suc j) inI inJ canI canJ none has =
+    inl (by (headroomCopy ls hs v left l h) (takes (roomier ls hs v h) left (growth l h v)) none
+    (has-copy ls hs v (left - headroomCopy ls hs v left l h) j (le-of-suc-le-suc inJ) canJ has))
+  where
+    by : (more : ℕ) → Takes (roomier ls hs v h) left (growth l h v) more → clamp l h v + more ≤ v
+        → roomier ls hs v (getD hs j 0) < left - more → headroom h v < headroom (getD hs j 0) v
+    by more taken at-most fewer = elim (decLt h (getD hs j 0)) [
+      | yes less ↦ omega arith
+      | no not ↦
+          absurd (omega (
+            arith,
+            share-at (canI .0) (canI .1) (roomier ls hs v h) left more taken .1 at-most,
+            roomier-falls ls hs v {t = getD hs j 0} {u = h} (omega arith),
+          ))
+    ]
+first-of (l ∷ ls) (h ∷ hs) v left (suc i) zero inI inJ canI canJ none has =
+    by (getD hs i 0 - 1) (headroomCopy ls hs v left l h) (takes (roomier ls hs v h) left (growth l h v)) has
+    (has-none ls hs v (left - headroomCopy ls hs v left l h) i (getD hs i 0 - 1) (le-of-suc-le-suc inI) canI (omega (arith, canI .1)) none) refl
+  where
+    by : (u more : ℕ) → Takes (roomier ls hs v h) left (growth l h v) more → v < clamp l h v + more → left - more < roomier ls hs v u
+        → u ≡ getD hs i 0 - 1 → (headroom (getD hs i 0) v < headroom h v) ⊎ ((headroom (getD hs i 0) v ≡ headroom h v) × (0 < suc i))
+    by u more taken over enough is = elim (decLt (getD hs i 0) h) [
+      | yes less ↦ inl (omega (arith, canI .1))
+      | no not ↦ elim (ℕ-discrete (getD hs i 0) h) [
+        | yes same ↦ inr (ap (λ (t : ℕ). headroom t v) same, omega arith)
+        | no apart ↦
+            absurd (omega (
+              arith,
+              share-at (canJ .0) (canJ .1) (roomier ls hs v h) left more taken .0 over,
+              more-most taken,
+              growth-most l h v,
+              roomier-falls ls hs v {t = h} {u = u} (omega (arith, apart)),
+            ))
+      ]
+    ]
+first-of (l ∷ ls) (h ∷ hs) v left (suc i) (suc j) inI inJ canI canJ none has =
+    elim (first-of ls hs v (left - headroomCopy ls hs v left l h) i j (le-of-suc-le-suc inI) (le-of-suc-le-suc inJ) canI canJ none has) [
+      | inl more ↦ inl more
+      | inr (same, earlier) ↦ inr (same, omega arith)
+    ]
+
+pub headroom-first : (lows highs : List ℕ) (v left : ℕ) → HeadroomFirst lows highs v (byHeadroom lows highs v left)
+headroom-first lows highs v left = record { first = first-of lows highs v left }
+
+-- 02: the levelled shares follow it
+pub levelled-first : (lows highs : List ℕ) (total : ℕ) → HeadroomFirst lows highs (level lows highs total) (levelled lows highs total)
+unfolding levelled
+levelled-first lows highs total = headroom-first lows highs (level lows highs total) (remainder lows highs total)
