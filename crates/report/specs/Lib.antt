@@ -3,6 +3,7 @@ pub mod Reports
 pub mod Calls
 pub mod Reportable
 pub mod Evenness
+pub mod Before
 pub mod Promises
 pub mod Places
 pub mod Orders

@@ -3,7 +3,8 @@ use mathlib.Core.List.{[], _∷_, flatten}
 use mathlib.Core.Path.{_≡_, refl, ap, _∙_}
 use Rattle.model.specs.Shares.{sum, sumOf}
 use Rattle.model.specs.Figures.{deviation, spread, pairs}
-use Rattle.model.specs.Levels.{clamped, totalAt, levelBelow, level, topped, remainder, levelled}
+use Rattle.model.specs.Levels.{clamped, totalAt, levelBelow, level, remainder, roomier, byHeadroom, levelled}
+use Rattle.model.specs.Ways.{topped, evened}
 use Rattle.text.specs.Words.{bytes}
 use Rattle.text.specs.Numbers.{digitsOf, printNumber}
 use Rattle.print.specs.Items.{item, items, form, printedLine}
@@ -23,7 +24,7 @@ use Rattle.report.specs.Reports.{unitLines, levelledLine, groupLines, re
 use Rattle.report.specs.Known.{exampleReport, exampleText}
 
 pub example-report : printed (0 ∷ 0 ∷ 0 ∷ []) example (settle (runningGroups (0 ∷ 0 ∷ 0 ∷ []) example) exampleTable) ≡ exampleReport
-unfolding running printed reportOf groupLines levelledLine unitLines groupLine printedLine form items item flatten printNumber digitsOf exampleReport example exampleTable settle settleFrom passFrom revise narrowed widths gather scatter sameList sum sumOf deviation spread pairs clamped totalAt levelBelow level topped remainder levelled hasPlan turnOf firstUp firstDown narrowedLow narrowedHigh tabulate narrowedLows narrowedHighs
+unfolding running printed reportOf groupLines levelledLine unitLines groupLine printedLine form items item flatten printNumber digitsOf exampleReport example exampleTable settle settleFrom passFrom revise narrowed widths gather scatter sameList sum sumOf deviation spread pairs clamped totalAt levelBelow level remainder roomier byHeadroom levelled topped evened hasPlan turnOf firstUp firstDown narrowedLow narrowedHigh tabulate narrowedLows narrowedHighs
 example-report = refl
 
 -- 01: "A refusal prints one line"

@@ -10,7 +10,8 @@ use Rattle.model.specs.Running.{running, Marked}
 use Rattle.model.specs.Shares.{Ranges, sum, sumOf}
 use Rattle.model.specs.Figures.{deviation, spread, pairs}
 use Rattle.model.specs.Known.{known, isKnown, four, ten, three, sameList}
-use Rattle.model.specs.Levels.{clamped, totalAt, levelBelow, level, topped, remainder, levelled}
+use Rattle.model.specs.Levels.{clamped, totalAt, levelBelow, level, remainder, roomier, byHeadroom, levelled}
+use Rattle.model.specs.Ways.{topped, evened}
 use Rattle.model.specs.Plans.{hasPlan, turnOf, firstUp, firstDown, narrowedLow, narrowedHigh, tabulate, narrowedLows, narrowedHighs}
 use Rattle.works.specs.Consistency.{Suits}
 use Rattle.works.specs.Resting.{ShutOpening, AtRest}
@@ -22,12 +23,12 @@ use Rattle.groups.specs.Memberships.{SoundGroup}
 
 -- every known share holds of the definitions
 pub known-jobs : allJobs knownJobs ≡ true
-unfolding allJobs holdsJob knownJobs threePairs pairTable example examplePairs exampleTable settle settleFrom passFrom revise narrowed widths gather scatter known isKnown four ten three sameList sum sumOf deviation spread pairs clamped totalAt levelBelow level topped remainder levelled hasPlan turnOf firstUp firstDown narrowedLow narrowedHigh tabulate narrowedLows narrowedHighs
+unfolding allJobs holdsJob knownJobs threePairs pairTable example examplePairs exampleTable settle settleFrom passFrom revise narrowed widths gather scatter known isKnown four ten three sameList sum sumOf deviation spread pairs clamped totalAt levelBelow level remainder roomier byHeadroom levelled topped evened hasPlan turnOf firstUp firstDown narrowedLow narrowedHigh tabulate narrowedLows narrowedHighs
 known-jobs = refl
 
 -- the three pairs settle in one pass, which leaves the opening table
 pub pairs-settle : settle threePairs pairTable ≡ Outcome.settled pairTable 1
-unfolding threePairs pairTable settle settleFrom passFrom revise narrowed widths gather scatter sameList sum sumOf deviation spread pairs clamped totalAt levelBelow level topped remainder levelled hasPlan turnOf firstUp firstDown narrowedLow narrowedHigh tabulate narrowedLows narrowedHighs
+unfolding threePairs pairTable settle settleFrom passFrom revise narrowed widths gather scatter sameList sum sumOf deviation spread pairs clamped totalAt levelBelow level remainder roomier byHeadroom levelled topped evened hasPlan turnOf firstUp firstDown narrowedLow narrowedHigh tabulate narrowedLows narrowedHighs
 pairs-settle = refl
 
 -- two different units are a sound group
