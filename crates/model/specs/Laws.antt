@@ -9,7 +9,6 @@ pub mod Least
 pub mod Level
 pub mod Headroom
 pub mod Bars
-pub mod HeadroomFirst
 pub mod Walk
 pub mod Levelled
 pub mod Spread
@@ -19,6 +18,7 @@ pub mod Plans
 pub mod Search
 pub mod Pinned
 pub mod Ways
+pub mod HeadroomFirst
 pub mod Narrowing
 pub mod Keeping
 pub mod Ends

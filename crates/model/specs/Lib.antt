@@ -5,6 +5,7 @@ pub mod Figures
 pub mod Levels
 pub mod Ways
 pub mod Plans
+pub mod Rules
 pub mod Groups
 pub mod Running
 pub mod Known

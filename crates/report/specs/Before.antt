@@ -11,15 +11,15 @@ use Rattle.report.specs.Lines.{groupLine}
 use Rattle.report.specs.Evenness.{levelIn}
 
 -- the line of a group in a table, with the copies left over for the first members
-abbrev pub lineBefore : List ℕ → ℕ → Table → Group → List ℕ
-lineBefore marks number table group =
+abbrev pub groupLineBefore : List ℕ → ℕ → Table → Group → List ℕ
+groupLineBefore marks number table group =
     let shares : List ℕ = evened (lowsOf table group) (highsOf table group) (group .total) in
     groupLine number (levelIn table group) (markedFigures (marksOf marks group) (group .total) shares) shares
 
 -- the group lines, in order, the first with the given number
-unfoldable pub linesBefore : List ℕ → ℕ → Table → List Group → List (List ℕ)
-linesBefore marks number table [] = []
-linesBefore marks number table (group ∷ groups) = lineBefore marks number table group ∷ linesBefore marks (suc number) table groups
+unfoldable pub groupLinesBefore : List ℕ → ℕ → Table → List Group → List (List ℕ)
+groupLinesBefore marks number table [] = []
+groupLinesBefore marks number table (group ∷ groups) = groupLineBefore marks number table group ∷ groupLinesBefore marks (suc number) table groups
 
 -- group lines that are the same but for the shares
 pub data SameButShares : List (List ℕ) → List (List ℕ) → Type 0 where

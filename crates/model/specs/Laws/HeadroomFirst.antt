@@ -1,42 +1,46 @@
--- Copies handed out by headroom go to the members with the most headroom first, and among equals to the earlier. Assumes nothing.
+-- Copies handed out by headroom go to the members with the most headroom first, and among equals to the earlier, and no other way does so. Assumes nothing.
 use Prim.Native.Nat.{ℕ, zero, suc, _+_, _-_, _≤_, _<_}
 use mathlib.Core.Bool.{Bool, true, false}
 use mathlib.Core.List.{List, [], _∷_}
 use mathlib.Core.Logic.{_⊎_, inl, inr}
-use mathlib.Core.Path.{_≡_, refl, ap}
+use mathlib.Core.Path.{_≡_, refl, sym, ap, _∙_}
 use native.Mathlib.Decide.{decLe, decLt, ℕ-discrete}
 use native.Mathlib.Nat.{le-of-suc-le-suc}
 use native.Mathlib.Omega.{arith, by-contra}
 use lib.Dec.{ltb}
 use lib.ListN.{length, getD}
 use borrow.Author.Tests.{ltb-true, ltb-false}
-use Rattle.model.specs.Shares.{pick, Ranges}
-use Rattle.model.specs.Levels.{clamp, growth, headroom, roomier, byHeadroom, level, remainder, levelled}
-use Rattle.model.specs.Ways.{CanTake, HeadroomFirst}
+use Rattle.model.specs.Shares.{pick, Ranges, sum}
+use Rattle.model.specs.Levels.{clamp, clamped, totalAt, growth, headroom, roomier, byHeadroom, level, remainder, levelled}
+use Rattle.model.specs.Ways.{HandsOut, CanTake, HeadroomFirst}
+use Rattle.model.specs.Laws.Least.{lower, partner, same}
+use Rattle.model.specs.Laws.Levelled.{headroom-between, headroom-adds, within-sum-high}
+use Rattle.model.specs.Laws.Lists.{within-length, within-at}
+use Rattle.model.specs.Laws.Ways.{clamped-at, clamped-length}
 use Rattle.model.specs.Laws.Headroom.{Growing, growing, growth-one, growth-most, isAhead, headroomCopy, ahead-above, ahead-none, ahead-most, ahead-rests, roomier-cons, roomier-falls}
 
 -- whether a member takes one: it does where fewer later ones have more headroom than copies are left
-pub data Takes (ahead left g : ℕ) : ℕ → Type 0 where
-  one : ahead < left → Takes ahead left g g
-  spared : left ≤ ahead → Takes ahead left g 0
+pub data Gets (ahead left g : ℕ) : ℕ → Type 0 where
+  copied : ahead < left → Gets ahead left g g
+  spared : left ≤ ahead → Gets ahead left g 0
 
-takes : (ahead left g : ℕ) → Takes ahead left g (pick (ltb ahead left) g 0)
-takes ahead left g = by (ltb ahead left) refl
+gets : (ahead left g : ℕ) → Gets ahead left g (pick (ltb ahead left) g 0)
+gets ahead left g = by (ltb ahead left) refl
   where
-    by : (b : Bool) → ltb ahead left ≡ b → Takes ahead left g (pick b g 0)
-    by true is = Takes.one (ltb-true ahead left is)
-    by false is = Takes.spared (ltb-false ahead left is)
+    by : (b : Bool) → ltb ahead left ≡ b → Gets ahead left g (pick b g 0)
+    by true is = Gets.copied (ltb-true ahead left is)
+    by false is = Gets.spared (ltb-false ahead left is)
 
 -- at most what it can
-more-most : {ahead left g more : ℕ} → Takes ahead left g more → more ≤ g
-more-most (Takes.one fewer) = omega arith
-more-most (Takes.spared enough) = omega arith
+more-most : {ahead left g more : ℕ} → Gets ahead left g more → more ≤ g
+more-most (Gets.copied fewer) = omega arith
+more-most (Gets.spared enough) = omega arith
 
 -- what a member that can take one has: v, and a copy more where one is taken
-share-at : {l h v : ℕ} → l ≤ v → v < h → (ahead left : ℕ) (more : ℕ) → Takes ahead left (growth l h v) more
+share-at : {l h v : ℕ} → l ≤ v → v < h → (ahead left : ℕ) (more : ℕ) → Gets ahead left (growth l h v) more
     → (v < clamp l h v + more → ahead < left) × (clamp l h v + more ≤ v → left ≤ ahead)
-share-at {l} {h} {v} low high ahead left more (Takes.one fewer) = (λ has. fewer, λ not. absurd (omega (arith, growth-one low high)))
-share-at {l} {h} {v} low high ahead left more (Takes.spared enough) = (λ has. absurd (omega arith), λ not. enough)
+share-at {l} {h} {v} low high ahead left more (Gets.copied fewer) = (λ has. fewer, λ not. absurd (omega (arith, growth-one low high)))
+share-at {l} {h} {v} low high ahead left more (Gets.spared enough) = (λ has. absurd (omega arith), λ not. enough)
 
 -- a member that has a copy has fewer members ahead than there are copies
 has-copy : (lows highs : List ℕ) (v left i : ℕ) → i < length (byHeadroom lows highs v left) → CanTake lows highs v i
@@ -45,18 +49,18 @@ unfolding byHeadroom roomier
 has-copy [] highs v left i inside can has = absurd (omega arith)
 has-copy (l ∷ ls) [] v left i inside can has = absurd (omega arith)
 has-copy (l ∷ ls) (h ∷ hs) v left zero inside can has =
-    omega (arith, ahead-none l h v {t = h} (omega arith), share-at (can .0) (can .1) (roomier ls hs v h) left _ (takes (roomier ls hs v h) left (growth l h v)) .0 has)
+    omega (arith, ahead-none l h v {t = h} (omega arith), share-at (can .0) (can .1) (roomier ls hs v h) left _ (gets (roomier ls hs v h) left (growth l h v)) .0 has)
 has-copy (l ∷ ls) (h ∷ hs) v left (suc i) inside can has =
-    by (headroomCopy ls hs v left l h) (takes (roomier ls hs v h) left (growth l h v))
+    by (headroomCopy ls hs v left l h) (gets (roomier ls hs v h) left (growth l h v))
     (has-copy ls hs v (left - headroomCopy ls hs v left l h) i (le-of-suc-le-suc inside) can has)
   where
     t : ℕ
     t = getD hs i 0
 
-    by : (more : ℕ) → Takes (roomier ls hs v h) left (growth l h v) more → roomier ls hs v t < left - more
+    by : (more : ℕ) → Gets (roomier ls hs v h) left (growth l h v) more → roomier ls hs v t < left - more
         → isAhead l h v t + roomier ls hs v t < left
-    by more (Takes.one fewer) rest = omega (arith, ahead-most l h v t)
-    by more (Takes.spared enough) rest = elim (decLt t h) [
+    by more (Gets.copied fewer) rest = omega (arith, ahead-most l h v t)
+    by more (Gets.spared enough) rest = elim (decLt t h) [
       | yes less ↦ absurd (omega (arith, roomier-falls ls hs v {t = t} {u = h} (omega arith)))
       | no not ↦ omega (arith, ahead-none l h v {t = t} (omega arith))
     ]
@@ -70,19 +74,19 @@ has-none (l ∷ ls) [] v left i u inside can next none = absurd (omega arith)
 has-none (l ∷ ls) (h ∷ hs) v left zero u inside can next none =
     omega (
       arith,
-      share-at (can .0) (can .1) (roomier ls hs v h) left _ (takes (roomier ls hs v h) left (growth l h v)) .1 none,
+      share-at (can .0) (can .1) (roomier ls hs v h) left _ (gets (roomier ls hs v h) left (growth l h v)) .1 none,
       ahead-above l h v {t = u} (omega (arith, can .1)) (omega arith),
       growth-one (can .0) (can .1),
       roomier-falls ls hs v {t = u} {u = h} (omega arith),
     )
 has-none (l ∷ ls) (h ∷ hs) v left (suc i) u inside can next none =
-    by (headroomCopy ls hs v left l h) (takes (roomier ls hs v h) left (growth l h v))
+    by (headroomCopy ls hs v left l h) (gets (roomier ls hs v h) left (growth l h v))
     (has-none ls hs v (left - headroomCopy ls hs v left l h) i u (le-of-suc-le-suc inside) can next none)
   where
-    by : (more : ℕ) → Takes (roomier ls hs v h) left (growth l h v) more → left - more < roomier ls hs v u
+    by : (more : ℕ) → Gets (roomier ls hs v h) left (growth l h v) more → left - more < roomier ls hs v u
         → left < isAhead l h v u + roomier ls hs v u
-    by more (Takes.spared enough) rest = omega arith
-    by more (Takes.one fewer) rest = elim (decLt u h) [
+    by more (Gets.spared enough) rest = omega arith
+    by more (Gets.copied fewer) rest = elim (decLt u h) [
       | yes less ↦ omega (arith, ahead-above l h v {t = u} (omega (arith, can .1)) less)
       | no not ↦ omega (arith, growth-most l h v, roomier-falls ls hs v {t = h} {u = u} (omega arith))
     ]
@@ -96,10 +100,10 @@ first-of [] highs v left i j inI inJ canI canJ none has = absurd (omega arith)
 first-of (l ∷ ls) [] v left i j inI inJ canI canJ none has = absurd (omega arith)
 first-of (l ∷ ls) (h ∷ hs) v left zero zero inI inJ canI canJ none has = absurd (omega arith)
 first-of (l ∷ ls) (h ∷ hs) v left zero (suc j) inI inJ canI canJ none has =
-    inl (by (headroomCopy ls hs v left l h) (takes (roomier ls hs v h) left (growth l h v)) none
+    inl (by (headroomCopy ls hs v left l h) (gets (roomier ls hs v h) left (growth l h v)) none
     (has-copy ls hs v (left - headroomCopy ls hs v left l h) j (le-of-suc-le-suc inJ) canJ has))
   where
-    by : (more : ℕ) → Takes (roomier ls hs v h) left (growth l h v) more → clamp l h v + more ≤ v
+    by : (more : ℕ) → Gets (roomier ls hs v h) left (growth l h v) more → clamp l h v + more ≤ v
         → roomier ls hs v (getD hs j 0) < left - more → headroom h v < headroom (getD hs j 0) v
     by more taken at-most fewer = elim (decLt h (getD hs j 0)) [
       | yes less ↦ omega arith
@@ -111,10 +115,10 @@ first-of (l ∷ ls) (h ∷ hs) v left zero (suc j) inI inJ canI canJ none has =
           ))
     ]
 first-of (l ∷ ls) (h ∷ hs) v left (suc i) zero inI inJ canI canJ none has =
-    by (getD hs i 0 - 1) (headroomCopy ls hs v left l h) (takes (roomier ls hs v h) left (growth l h v)) has
+    by (getD hs i 0 - 1) (headroomCopy ls hs v left l h) (gets (roomier ls hs v h) left (growth l h v)) has
     (has-none ls hs v (left - headroomCopy ls hs v left l h) i (getD hs i 0 - 1) (le-of-suc-le-suc inI) canI (omega (arith, canI .1)) none) refl
   where
-    by : (u more : ℕ) → Takes (roomier ls hs v h) left (growth l h v) more → v < clamp l h v + more → left - more < roomier ls hs v u
+    by : (u more : ℕ) → Gets (roomier ls hs v h) left (growth l h v) more → v < clamp l h v + more → left - more < roomier ls hs v u
         → u ≡ getD hs i 0 - 1 → (headroom (getD hs i 0) v < headroom h v) ⊎ ((headroom (getD hs i 0) v ≡ headroom h v) × (0 < suc i))
     by u more taken over enough is = elim (decLt (getD hs i 0) h) [
       | yes less ↦ inl (omega (arith, canI .1))
@@ -143,3 +147,50 @@ headroom-first lows highs v left = record { first = first-of lows highs v left }
 pub levelled-first : (lows highs : List ℕ) (total : ℕ) → HeadroomFirst lows highs (level lows highs total) (levelled lows highs total)
 unfolding levelled
 levelled-first lows highs total = headroom-first lows highs (level lows highs total) (remainder lows highs total)
+
+module _ {lows highs : List ℕ} (ranges : Ranges lows highs) {v left : ℕ} where
+  -- a member that has more in one way than in another can take a copy, has none in the other and one here
+  differs : {xs ys : List ℕ} → HandsOut lows highs v left xs → HandsOut lows highs v left ys → (i : ℕ) → i < length xs → getD xs i 0 < getD ys i 0
+      → CanTake lows highs v i × (getD xs i 0 ≤ v) × (v < getD ys i 0)
+  differs {xs} {ys} one other i inside less =
+      let below : i < length lows = omega (arith, within-length (one .between), clamped-length ranges v) in
+      let there : i < length ys = omega (arith, within-length (other .between), clamped-length ranges v) in
+      omega (
+        arith,
+        within-at (one .between) i inside,
+        within-at (other .between) i there,
+        clamped-at ranges v i below,
+        clamped-at ranges (suc v) i below,
+      )
+
+  -- so two ways that both go by headroom are one
+  pub headroom-one : {xs ys : List ℕ} → HandsOut lows highs v left xs → HeadroomFirst lows highs v xs
+      → HandsOut lows highs v left ys → HeadroomFirst lows highs v ys → xs ≡ ys
+  headroom-one {xs} {ys} one first other second =
+      let many : length xs ≡ length ys = omega (arith, within-length (one .between), within-length (other .between)) in
+      let adds : sum xs ≡ sum ys = one .adds ∙ sym (other .adds) in
+      elim (lower xs ys many) [
+        | inl (i, inside, less) ↦
+            let (j, there, more) = partner ys xs (sym many) (sym adds) i (omega arith) less in
+            let (canI, noneI, hasI) = differs one other i inside less in
+            let (canJ, noneJ, hasJ) = differs other one j there more in
+            absurd (apart (first .first i j inside (omega arith) canI canJ noneI hasJ) (second .first j i there (omega arith) canJ canI noneJ hasI))
+        | inr none ↦ same xs ys many adds none
+      ]
+    where
+      apart : {a b i j : ℕ} → (a < b) ⊎ ((a ≡ b) × (j < i)) → (b < a) ⊎ ((b ≡ a) × (i < j)) → ⊥
+      apart (inl less) (inl more) = omega arith
+      apart (inl less) (inr equal) = omega arith
+      apart (inr equal) (inl more) = omega arith
+      apart (inr equal) (inr other-equal) = omega arith
+
+  -- and the shares by headroom are the only ones that go by it
+  pub headroom-only : {xs : List ℕ} → HandsOut lows highs v left xs → HeadroomFirst lows highs v xs → xs ≡ byHeadroom lows highs v left
+  unfolding totalAt
+  headroom-only {xs} way first =
+      headroom-one way first
+      (record {
+        between = headroom-between ranges v left;
+        adds = headroom-adds ranges v left (omega (arith, way .adds, within-sum-high (way .between)));
+      })
+      (headroom-first lows highs v left)

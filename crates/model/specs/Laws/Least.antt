@@ -15,11 +15,11 @@ use Rattle.model.specs.Transfers.{transfer, Additive, SchurConvex}
 use Rattle.model.specs.Laws.Transfer.{transfer-from, transfer-to, additive-transfer}
 
 -- a member whose share is lower in xs than in ys
-abbrev Lower : List ℕ → List ℕ → Type 0
+abbrev pub Lower : List ℕ → List ℕ → Type 0
 Lower xs ys = (i : ℕ) × (i < length xs) × (getD xs i 0 < getD ys i 0)
 
 -- some share is lower in xs than in ys, or none is
-lower : (xs ys : List ℕ) → length xs ≡ length ys → Lower xs ys ⊎ ((k : ℕ) → k < length xs → getD ys k 0 ≤ getD xs k 0)
+pub lower : (xs ys : List ℕ) → length xs ≡ length ys → Lower xs ys ⊎ ((k : ℕ) → k < length xs → getD ys k 0 ≤ getD xs k 0)
 lower [] [] e = inr (λ k h. absurd (omega arith))
 lower [] (y ∷ ys) e = absurd (omega arith)
 lower (x ∷ xs) [] e = absurd (omega arith)
@@ -32,7 +32,7 @@ lower (x ∷ xs) (y ∷ ys) e = elim (decLt x y) [
 ]
 
 -- where the totals agree and one share is higher, another is lower
-partner : (xs ys : List ℕ) → length xs ≡ length ys → sum xs ≡ sum ys
+pub partner : (xs ys : List ℕ) → length xs ≡ length ys → sum xs ≡ sum ys
     → (i : ℕ) → i < length xs → getD ys i 0 < getD xs i 0 → Lower xs ys
 partner xs ys e s i p h = elim (lower xs ys e) [
   | inl j ↦ j
@@ -40,7 +40,7 @@ partner xs ys e s i p h = elim (lower xs ys e) [
 ]
 
 -- where the totals agree and no share is lower, all are the same
-same : (xs ys : List ℕ) → length xs ≡ length ys → sum xs ≡ sum ys
+pub same : (xs ys : List ℕ) → length xs ≡ length ys → sum xs ≡ sum ys
     → ((k : ℕ) → k < length xs → getD ys k 0 ≤ getD xs k 0) → xs ≡ ys
 same xs ys e s f = ext-getD 0 xs ys e (λ k p. omega (
   arith,

@@ -15,6 +15,7 @@ use Rattle.model.specs.Levels.{clamp, clamped, totalAt, growth, level, r
 use Rattle.model.specs.Ways.{HandsOut, evened}
 use Rattle.model.specs.Even.{Even}
 use Rattle.model.specs.Plans.{Plan, hasShares, hasPlan, taken, firstUp, firstDown, narrowedLow, narrowedHigh}
+use Rattle.model.specs.Rules.{planBy, HandingRule}
 use Rattle.model.specs.Transfers.{SchurConvex}
 use Rattle.model.specs.Laws.Headroom.{growth-most}
 use Rattle.model.specs.Laws.Least.{least}
@@ -59,14 +60,14 @@ lows-within Ranges.none = Within.none
 lows-within (Ranges.also {l = l} {h = h} p q r) = Within.also {l = l} {h = h} {x = l} (omega arith) p (lows-within r)
 
 -- the share at v of member i
-clamped-at : {lows highs : List ℕ} → Ranges lows highs → (v i : ℕ) → i < length lows
+pub clamped-at : {lows highs : List ℕ} → Ranges lows highs → (v i : ℕ) → i < length lows
     → getD (clamped lows highs v) i 0 ≡ clamp (getD lows i 0) (getD highs i 0) v
 unfolding clamped
 clamped-at Ranges.none v i below = absurd (omega arith)
 clamped-at (Ranges.also p q r) v zero below = refl
 clamped-at (Ranges.also p q r) v (suc i) below = clamped-at r v i (le-of-suc-le-suc below)
 
-clamped-length : {lows highs : List ℕ} → Ranges lows highs → (v : ℕ) → length (clamped lows highs v) ≡ length lows
+pub clamped-length : {lows highs : List ℕ} → Ranges lows highs → (v : ℕ) → length (clamped lows highs v) ≡ length lows
 unfolding clamped
 clamped-length Ranges.none v = refl
 clamped-length (Ranges.also p q r) v = ap suc (clamped-length r v)
@@ -162,15 +163,6 @@ unfolding firstDown
 first-down-same test test′ zero v agree = refl
 first-down-same test test′ (suc steps) v agree =
     agreed (test v) (test′ v) v (agree v (omega arith)) (first-down-same test test′ steps (v - 1) (λ k upTo. agree k (omega arith)))
-
--- whether a group has a plan, asked of the shares of some rule
-abbrev pub planBy : (List ℕ → List ℕ → ℕ → List ℕ) → List ℕ → List ℕ → ℕ → Limits → Bool
-planBy rule lows highs total limits = hasShares lows highs total && meets limits (length lows) total (rule lows highs total)
-
--- a rule that hands the copies left over out in some way, in every group that has shares
-abbrev pub HandingRule : (List ℕ → List ℕ → ℕ → List ℕ) → Type 0
-HandingRule rule = (lows highs : List ℕ) → Ranges lows highs → (total : ℕ) → sum lows ≤ total → total ≤ sum highs
-    → HandsOut lows highs (level lows highs total) (remainder lows highs total) (rule lows highs total)
 
 -- the rules of 01 before item 6 of 02 and with it
 pub evened-rule : HandingRule evened

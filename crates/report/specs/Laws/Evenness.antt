@@ -22,7 +22,7 @@ use Rattle.levelling.specs.Tables.{Table, units, lowOf, highOf, lowsOf, highsOf
 use Rattle.report.specs.Reports.{levelledLine, groupLines}
 use Rattle.report.specs.Lines.{groupLine}
 use Rattle.report.specs.Evenness.{levelIn, Evenest, EvenLines}
-use Rattle.report.specs.Before.{linesBefore, SameButShares}
+use Rattle.report.specs.Before.{groupLinesBefore, SameButShares}
 
 module _ {marks : List ℕ} {groups : List Group} {table : Table} (sound : ShutOpening marks groups table) (rest : AtRest marks groups table) where
   -- the levelled shares are evenest
@@ -79,8 +79,8 @@ lines-before : (marks : List ℕ) (table : Table) (number : ℕ) (groups : List 
     → ((group : Group) → List·Memᴰ group groups
     → markedFigures (marksOf marks group) (group .total) (levelled (lowsOf table group) (highsOf table group) (group .total))
     ≡ markedFigures (marksOf marks group) (group .total) (evened (lowsOf table group) (highsOf table group) (group .total)))
-    → SameButShares (groupLines marks number table groups) (linesBefore marks number table groups)
-unfolding groupLines levelledLine linesBefore
+    → SameButShares (groupLines marks number table groups) (groupLinesBefore marks number table groups)
+unfolding groupLines levelledLine groupLinesBefore
 lines-before marks table number [] same = SameButShares.none
 lines-before marks table number (group ∷ groups) same =
     let shares : List ℕ = levelled (lowsOf table group) (highsOf table group) (group .total) in
@@ -88,13 +88,13 @@ lines-before marks table number (group ∷ groups) same =
     let figures : Figures = markedFigures (marksOf marks group) (group .total) shares in
     let rest = lines-before marks table (suc number) groups (λ other member. same other (List·Memᴰ·tail member)) in
     subst (λ (f : Figures). SameButShares (groupLine number (levelIn table group) figures shares ∷ groupLines marks (suc number) table groups)
-    (groupLine number (levelIn table group) f were ∷ linesBefore marks (suc number) table groups))
+    (groupLine number (levelIn table group) f were ∷ groupLinesBefore marks (suc number) table groups))
     (same group (List·Memᴰ·head refl))
     (SameButShares.also number (levelIn table group) figures shares were rest)
 
 -- so it is for every settled table
 pub settled-before : {marks : List ℕ} {groups : List Group} {table final : Table} {passes : ℕ} → ShutOpening marks groups table
     → settle (runningGroups marks groups) table ≡ Outcome.settled final passes
-    → SameButShares (groupLines marks 1 final groups) (linesBefore marks 1 final groups)
+    → SameButShares (groupLines marks 1 final groups) (groupLinesBefore marks 1 final groups)
 settled-before {marks} {groups} {table} {final} sound settles =
     lines-before marks final 1 groups (figures-before (settled-opening sound settles) (settled-rest sound settles))
