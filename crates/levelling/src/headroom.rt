@@ -1,6 +1,7 @@
 // Who gets the copies left over: the members with the most headroom, told by a bar. The level is the same for all, so that a higher
 // high is more headroom.
 use model::Share;
+use model::levels::extra;
 use model::levels::growth;
 use model::order::guess_place;
 ghost use mathlib.Core.Path.{_≡_};
@@ -8,7 +9,7 @@ ghost use Prim.Native.Nat.{_+_, _≤_, _<_};
 ghost use lib.ListN.{length};
 ghost use Rattle.model.specs.Levels.{roomier};
 ghost use Rattle.model.specs.Laws.Headroom.{isAhead};
-ghost use Rattle.model.specs.Laws.Bars.{Bar, BarTaken};
+ghost use Rattle.model.specs.Laws.Bars.{Bar, copyAt};
 ghost use Rattle.model.specs.Sound.{SoundRanges};
 ghost use Rattle.levelling.specs.Inner.Headroom.{HasTakers};
 
@@ -19,7 +20,7 @@ pub struct HeadroomBar {
 }
 
 // Whether a member can take one copy more and has a high above another: 1 or 0.
-fn one_above(low: u64, high: u64, v: u64, other: u64) -> u64
+pub fn one_above(low: u64, high: u64, v: u64, other: u64) -> u64
     requires { ⌜ v ≤ other ⌝ }
     ensures { λ r. ⌜ r ≡ isAhead low high v other ⌝ }
 {
@@ -142,31 +143,12 @@ pub fn bar_for(lows: &[u64], highs: &[u64], v: u64, left: u64, numbers: &mut [u6
     find_bar(lows, highs, v, left, guess)
 }
 
-// What a member takes, one copy or none, and what rests then for members at the bar.
-pub struct TakenCopy {
-    pub more: u64,
-    pub rest: u64,
-}
-
-// The copy that a member takes: above the bar, or at it as long as copies rest.
-pub fn take_copy(low: u64, high: u64, v: u64, bar: u64, rest: u64) -> TakenCopy
-    requires { ⌜ v ≤ bar ⌝ }
-    ensures { λ r. ⌜ BarTaken low high v bar rest (r .more) (r .rest) ⌝ }
+// The copy that a member with the bar's high takes, as long as copies rest: one, or none.
+pub fn one_at(low: u64, high: u64, v: u64, bar: u64, rest: u64) -> u64
+    ensures { λ r. ⌜ r ≡ copyAt low high v bar rest ⌝ }
 {
-    if growth(low, high, v) == 0 {
-        return TakenCopy { more: 0, rest };
+    if high == bar {
+        return extra(low, high, v, rest);
     }
-    if bar < high {
-        return TakenCopy { more: 1, rest };
-    }
-    if high < bar {
-        return TakenCopy { more: 0, rest };
-    }
-    if rest == 0 {
-        return TakenCopy { more: 0, rest };
-    }
-    TakenCopy {
-        more: 1,
-        rest: rest - 1,
-    }
+    0
 }

@@ -1,6 +1,7 @@
 // The shares of a group at its level.
 use crate::headroom::bar_for;
-use crate::headroom::take_copy;
+use crate::headroom::one_above;
+use crate::headroom::one_at;
 use model::levels::clamp;
 ghost use mathlib.Core.Path.{_≡_};
 ghost use Prim.Native.Nat.{_≤_};
@@ -25,9 +26,12 @@ pub fn fill_plan(lows: &[u64], highs: &[u64], v: u64, left: u64, plan: &mut [u64
     let mut rest = found.rest;
     let mut i: usize = 0;
     while i < lows.len() {
-        let taken = take_copy(lows[i], highs[i], v, bar, rest);
-        plan[i] = clamp(lows[i], highs[i], v) + taken.more;
-        rest = taken.rest;
+        let low = lows[i];
+        let high = highs[i];
+        let at = one_at(low, high, v, bar, rest);
+        let more = one_above(low, high, v, bar) + at;
+        plan[i] = clamp(low, high, v) + more;
+        rest -= at;
         i += 1;
     }
 }

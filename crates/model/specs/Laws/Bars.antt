@@ -1,11 +1,15 @@
 -- The bar of headroom: copies go to the members with a high above it, and what rests of them to the first with that high. Assumes nothing.
-use Prim.Native.Nat.{ℕ, zero, suc, _+_, _-_, _≤_, _<_}
+use Prim.Native.Nat.{ℕ, zero, suc, _+_, _-_, _≤_, _<_, min}
+use mathlib.Core.Bool.{Bool, true, false}
 use mathlib.Core.List.{List, [], _∷_}
+use mathlib.Core.Logic.{_≢_}
 use mathlib.Core.Path.{_≡_, refl, sym, _∙_}
+use native.Mathlib.Decide.{decLt, ℕ-discrete}
 use native.Mathlib.Omega.{arith}
-use lib.Dec.{ltb}
-use borrow.Author.Tests.{lt-ltb, le-ltb}
-use Rattle.model.specs.Shares.{greatestShare, Ranges}
+use lib.Dec.{ltb, eqb}
+use borrow.Author.Tests.{lt-ltb, le-ltb, eq-eqb, eqb-true}
+use Rattle.model.specs.Shares.{pick, greatestShare, Ranges}
+use Rattle.model.specs.Laws.Tests.{refuted}
 use Rattle.model.specs.Levels.{growth, roomier}
 use Rattle.model.specs.Laws.Headroom.{Growing, growing, isAhead, headroomCopy, ahead-above, ahead-none, ahead-rests, none-picked, roomier-cons, roomier-falls, roomier-none}
 
@@ -21,6 +25,60 @@ pub data BarTaken (l h v bar rest : ℕ) : ℕ → ℕ → Type 0 where
   at : {left : ℕ} → growth l h v ≡ 1 → h ≡ bar → rest ≡ suc left → v < h → BarTaken l h v bar rest 1 left
   spent : growth l h v ≡ 1 → h ≡ bar → rest ≡ 0 → BarTaken l h v bar rest 0 rest
   behind : growth l h v ≡ 1 → h < bar → v < h → BarTaken l h v bar rest 0 rest
+
+-- 1 for a member that takes a copy of those that rest for members at the bar, else 0
+abbrev pub copyAt : ℕ → ℕ → ℕ → ℕ → ℕ → ℕ
+copyAt l h v bar rest = pick (eqb h bar) (min rest (growth l h v)) 0
+
+module _ (l h v bar rest : ℕ) where
+  -- no more is taken than rests
+  pub at-fits : copyAt l h v bar rest ≤ rest
+  at-fits = by (eqb h bar)
+    where
+      by : (b : Bool) → pick b (min rest (growth l h v)) 0 ≤ rest
+      by true = omega arith
+      by false = omega arith
+
+  -- none is taken where none can be
+  at-rests : growth l h v ≡ 0 → copyAt l h v bar rest ≡ 0
+  at-rests none = none-picked (eqb h bar) (omega arith)
+
+  -- nor away from the bar
+  pub at-away : h ≢ bar → copyAt l h v bar rest ≡ 0
+  at-away apart = rw (refuted (eqb h bar) (λ same. apart (eqb-true h bar same)))
+
+  pub at-here : h ≡ bar → copyAt l h v bar rest ≡ min rest (growth l h v)
+  at-here same = rw (eq-eqb h bar same)
+
+  -- what a member above the bar takes, and what one at it does, is what it takes by the bar
+  pub bar-taken : v ≤ bar → {more after : ℕ} → more ≡ isAhead l h v bar + copyAt l h v bar rest → after ≡ rest - copyAt l h v bar rest
+      → BarTaken l h v bar rest more after
+  bar-taken from {more} {after} is left = by (growth l h v) (growing l h v) refl
+    where
+      told : (m a : ℕ) → BarTaken l h v bar rest m a → more ≡ m → after ≡ a → BarTaken l h v bar rest more after
+      told m a taken same-more same-after = rw (same-more, same-after) taken
+
+      by : (g : ℕ) → Growing l h v g → growth l h v ≡ g → BarTaken l h v bar rest more after
+      by g (Growing.rests none) grown =
+          told 0 rest (BarTaken.stays grown) (omega (arith, ahead-rests l h v bar grown, at-rests grown)) (omega (arith, at-rests grown))
+      by g (Growing.grows low high) grown = elim (decLt bar h) [
+        | yes past ↦
+            let away = at-away (λ same. omega arith) in
+            told 1 rest (BarTaken.above grown past from) (omega (arith, ahead-above l h v {t = bar} from past, away)) (omega (arith, away))
+        | no not ↦
+            let under = ahead-none l h v {t = bar} (omega arith) in
+            elim (ℕ-discrete h bar) [
+              | yes same ↦
+                  let here = at-here same in
+                  elim (decLt 0 rest) [
+                    | yes some ↦ told 1 (rest - 1) (BarTaken.at {left = rest - 1} grown same (omega arith) high) (omega (arith, under, here)) (omega (arith, here))
+                    | no none ↦ told 0 rest (BarTaken.spent grown same (omega arith)) (omega (arith, under, here)) (omega (arith, here))
+                  ]
+              | no apart ↦
+                  let away = at-away apart in
+                  told 0 rest (BarTaken.behind grown (omega (arith, apart)) high) (omega (arith, under, away)) (omega (arith, away))
+            ]
+      ]
 
 -- a member takes no more than it can
 pub taken-most : {l h v bar rest more after : ℕ} → BarTaken l h v bar rest more after → more ≤ growth l h v

@@ -1,13 +1,14 @@
--- The shares of the members passed are written, and the bar tells those of the others.  Assumes nothing.
+-- The shares of the members passed are written, and the bar tells those of the others. Assumes nothing.
 use borrow.Author.Needs.{needs}
 use native.Mathlib.Omega.{arith}
 use mathlib.Core.List.{List}
 use mathlib.Core.Path.{_≡_, sym, _∙_}
-use Prim.Native.Nat.{ℕ, _-_, _≤_}
-use lib.ListN.{length, drop}
+use Prim.Native.Nat.{ℕ, _+_, _-_, _≤_}
+use lib.ListN.{length, getD, drop}
 use lib.Seq.{length-take-le, drop-at}
-use Rattle.model.specs.Laws.Bars.{taken-most}
+use Rattle.model.specs.Laws.Bars.{BarTaken, at-fits, bar-taken, taken-most}
 use Rattle.model.specs.Laws.Bounds.{share-at-small}
+use Rattle.model.specs.Laws.Headroom.{growth-most}
 use Rattle.model.specs.Laws.Lists.{ranges-at}
 use Rattle.model.specs.Laws.Walk.{Handing, handing-none, handing-step, written-all}
 use Rattle.levelling.proofs.shares.fill_plan.Statement.{statement}
@@ -45,55 +46,60 @@ loop-holds c =
     let found = c .before .before in
     (omega arith, found .bar-for .ensures .1, search needs, handing-none (found .bar-for .ensures .0) _)
 
-mul-take-copy : tie.Need-mul-take-copy Inv-loop μ-loop
-mul-take-copy c = search needs
+mul-low : tie.Need-mul-low Inv-loop μ-loop
+mul-low c = search needs
 
-shared-slice-read-take-copy : tie.Need-shared-slice-read-take-copy Inv-loop μ-loop
-shared-slice-read-take-copy c = search needs
+shared-slice-read-low : tie.Need-shared-slice-read-low Inv-loop μ-loop
+shared-slice-read-low c = search needs
 
-mul-take-copy-2 : tie.Need-mul-take-copy-2 Inv-loop μ-loop
-mul-take-copy-2 c = search needs
+mul-high : tie.Need-mul-high Inv-loop μ-loop
+mul-high c = search needs
 
-shared-slice-read-take-copy-2 : tie.Need-shared-slice-read-take-copy-2 Inv-loop μ-loop
-shared-slice-read-take-copy-2 c = search needs
+shared-slice-read-high : tie.Need-shared-slice-read-high Inv-loop μ-loop
+shared-slice-read-high c = search needs
 
-take-copy-requires : tie.Need-take-copy-requires Inv-loop μ-loop
-take-copy-requires c κs = search needs
+one-at-requires : tie.Need-one-at-requires Inv-loop μ-loop
+one-at-requires c κs = search needs
 
-mul-clamp : tie.Need-mul-clamp Inv-loop μ-loop
-mul-clamp c = search needs
+one-above-requires : tie.Need-one-above-requires Inv-loop μ-loop
+one-above-requires c κs = search needs
 
-shared-slice-read-clamp : tie.Need-shared-slice-read-clamp Inv-loop μ-loop
-shared-slice-read-clamp c = search needs
-
-mul-clamp-2 : tie.Need-mul-clamp-2 Inv-loop μ-loop
-mul-clamp-2 c = search needs
-
-shared-slice-read-clamp-2 : tie.Need-shared-slice-read-clamp-2 Inv-loop μ-loop
-shared-slice-read-clamp-2 c = search needs
-
-clamp-requires : tie.Need-clamp-requires Inv-loop μ-loop
-clamp-requires c κs =
-    let turn = c .before .before .before .before .before .before in
-    ranges-at (from (turn .before .before .before) .pre .0 .sound .ranges) (turn .loop .i) (omega arith) .0
-
--- the start, the loop's turn and what the member takes, seen from its share on
-module _ (c : tie.After-struct-known Inv-loop μ-loop) where
+-- the start, the loop's turn and what the member takes
+module _ (c : tie.After-one-above Inv-loop μ-loop) where
   abbrev turn : tie.At-loop Inv-loop μ-loop
-  turn = c .before .before .before .before .before .before .before .before
+  turn = c .before .before .before .before .before
 
   abbrev start : tie.Start Inv-loop μ-loop
   start = from (turn .before .before .before)
 
-  abbrev taken : tie.After-take-copy Inv-loop μ-loop
-  taken = c .before .before .before .before
+  abbrev at : ℕ
+  at = c .before .one-at .result
+
+  abbrev more : ℕ
+  more = c .one-above .result + at
+
+  taken : BarTaken (getD (start .args .lows .now) (turn .loop .i) 0) (getD (start .args .highs .now) (turn .loop .i) 0) (start .args .v)
+      (turn .before .before .before .bar-for .result .high) (turn .loop .rest) more (turn .loop .rest - at)
+  taken =
+      bar-taken (getD (start .args .lows .now) (turn .loop .i) 0) (getD (start .args .highs .now) (turn .loop .i) 0) (start .args .v)
+      (turn .before .before .before .bar-for .result .high) (turn .loop .rest) (turn .loop .inv .1)
+      (omega (arith, c .one-above .ensures, c .before .one-at .ensures)) (omega (arith, c .before .one-at .ensures))
+
+  one : more ≤ 1
+  one = omega (arith, taken-most taken, growth-most (getD (start .args .lows .now) (turn .loop .i) 0) (getD (start .args .highs .now) (turn .loop .i) 0) (start .args .v))
+
+add-more : tie.Need-add-more Inv-loop μ-loop
+add-more c = omega (arith, one c)
+
+clamp-requires : tie.Need-clamp-requires Inv-loop μ-loop
+clamp-requires c κs = ranges-at (start c .pre .0 .sound .ranges) (turn c .loop .i) (omega arith) .0
 
 add-plan : tie.Need-add-plan Inv-loop μ-loop
 add-plan c =
+    let m = c .before in
     omega (
       arith,
-      share-at-small (start c .pre .0 .sound) (turn c .loop .i) (start c .args .v) (c .before .clamp .result) (taken c .take-copy .result .more)
-          (omega arith) (c .before .clamp .ensures) (taken-most (taken c .take-copy .ensures)),
+      share-at-small (start m .pre .0 .sound) (turn m .loop .i) (start m .args .v) (c .clamp .result) (more m) (omega arith) (c .clamp .ensures) (taken-most (taken m)),
     )
 
 mul-plan : tie.Need-mul-plan Inv-loop μ-loop
@@ -101,6 +107,16 @@ mul-plan c = search needs
 
 slice-write-plan : tie.Need-slice-write-plan Inv-loop μ-loop
 slice-write-plan c = search needs
+
+sub-rest : tie.Need-sub-rest Inv-loop μ-loop
+sub-rest c =
+    let m = c .before in
+    omega (
+      arith,
+      m .before .one-at .ensures,
+      at-fits (getD (start m .args .lows .now) (turn m .loop .i) 0) (getD (start m .args .highs .now) (turn m .loop .i) 0) (start m .args .v)
+          (turn m .before .before .before .bar-for .result .high) (turn m .loop .rest),
+    )
 
 add-i : tie.Need-add-i Inv-loop μ-loop
 add-i c = search needs
@@ -110,14 +126,15 @@ loop-less c = search needs
 
 loop-again : tie.Need-loop-again Inv-loop μ-loop
 loop-again c =
-    let s = start c in
-    let so-far = turn c .loop .inv in (
+    let m = c .before in
+    let s = start m in
+    let so-far = turn m .loop .inv in (
       search needs,
       so-far .1,
       so-far .2,
-      handing-step (s .args .lows .now) (s .args .highs .now) (turn c .loop .i) (omega arith) (omega (arith, s .pre .0 .sound .paired)) (s .args .v) (s .args .left)
-          _ (turn c .loop .rest) (c .before .clamp .result) _ _ _ (turn c .loop .plan)
-          (omega arith) (c .before .clamp .ensures) (taken c .take-copy .ensures) (so-far .3),
+      handing-step (s .args .lows .now) (s .args .highs .now) (turn m .loop .i) (omega arith) (omega (arith, s .pre .0 .sound .paired)) (s .args .v) (s .args .left)
+          _ (turn m .loop .rest) (c .clamp .result) (more m) _ _ (turn m .loop .plan)
+          (omega arith) (c .clamp .ensures) (taken m) (so-far .3),
     )
 
 same-length : tie.Need-same-length Inv-loop μ-loop
@@ -143,19 +160,18 @@ fill-plan-spec =
     slice-aggregate-bar-for
     bar-for-requires
     loop-holds
-    mul-take-copy
-    shared-slice-read-take-copy
-    mul-take-copy-2
-    shared-slice-read-take-copy-2
-    take-copy-requires
-    mul-clamp
-    shared-slice-read-clamp
-    mul-clamp-2
-    shared-slice-read-clamp-2
+    mul-low
+    shared-slice-read-low
+    mul-high
+    shared-slice-read-high
+    one-at-requires
+    one-above-requires
+    add-more
     clamp-requires
     add-plan
     mul-plan
     slice-write-plan
+    sub-rest
     add-i
     loop-less
     loop-again
