@@ -8,8 +8,7 @@ ghost use mathlib.Core.Path.{_≡_};
 ghost use Prim.Native.Nat.{_+_, _≤_, _<_};
 ghost use lib.ListN.{length};
 ghost use Rattle.model.specs.Levels.{roomier};
-ghost use Rattle.model.specs.Laws.Headroom.{isAhead};
-ghost use Rattle.model.specs.Laws.Bars.{Bar, copyAt};
+ghost use Rattle.model.specs.Inner.Headroom.{isAhead, Bar, copyAt};
 ghost use Rattle.model.specs.Sound.{SoundRanges};
 ghost use Rattle.levelling.specs.Inner.Headroom.{HasTakers};
 

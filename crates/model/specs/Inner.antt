@@ -1,2 +1,3 @@
 -- What only inner contracts use, a file for each topic.
 pub mod Orders
+pub mod Headroom

@@ -11,12 +11,8 @@ use borrow.Author.Tests.{lt-ltb, le-ltb, eq-eqb, eqb-true}
 use Rattle.model.specs.Shares.{pick, greatestShare, Ranges}
 use Rattle.model.specs.Laws.Tests.{refuted}
 use Rattle.model.specs.Levels.{growth, roomier}
-use Rattle.model.specs.Laws.Headroom.{Growing, growing, isAhead, headroomCopy, ahead-above, ahead-none, ahead-rests, none-picked, roomier-cons, roomier-falls, roomier-none}
-
--- so many copies are left: those above the bar get one each, the others rest for members at the bar, of which there are enough
-pub record Bar (lows highs : List ℕ) (v left bar rest : ℕ) : Type 0 where
-  pub over : roomier lows highs v bar + rest ≡ left
-  pub under : (u : ℕ) → suc u ≡ bar → v ≤ u → left ≤ roomier lows highs v u
+use Rattle.model.specs.Inner.Headroom.{isAhead, Bar, copyAt}
+use Rattle.model.specs.Laws.Headroom.{Growing, growing, headroomCopy, ahead-above, ahead-none, ahead-rests, none-picked, roomier-cons, roomier-falls, roomier-none}
 
 -- what a member takes by the bar, and what rests then
 pub data BarTaken (l h v bar rest : ℕ) : ℕ → ℕ → Type 0 where
@@ -25,10 +21,6 @@ pub data BarTaken (l h v bar rest : ℕ) : ℕ → ℕ → Type 0 where
   at : {left : ℕ} → growth l h v ≡ 1 → h ≡ bar → rest ≡ suc left → v < h → BarTaken l h v bar rest 1 left
   spent : growth l h v ≡ 1 → h ≡ bar → rest ≡ 0 → BarTaken l h v bar rest 0 rest
   behind : growth l h v ≡ 1 → h < bar → v < h → BarTaken l h v bar rest 0 rest
-
--- 1 for a member that takes a copy of those that rest for members at the bar, else 0
-abbrev pub copyAt : ℕ → ℕ → ℕ → ℕ → ℕ → ℕ
-copyAt l h v bar rest = pick (eqb h bar) (min rest (growth l h v)) 0
 
 module _ (l h v bar rest : ℕ) where
   -- no more is taken than rests

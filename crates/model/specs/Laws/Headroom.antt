@@ -11,6 +11,7 @@ use lib.ListN.{length}
 use borrow.Author.Tests.{lt-ltb, le-ltb, le-leb, lt-leb}
 use Rattle.model.specs.Shares.{pick, greatestShare, sum, Ranges}
 use Rattle.model.specs.Levels.{clamped, totalAt, growth, headroom, roomier}
+use Rattle.model.specs.Inner.Headroom.{isAhead}
 use Rattle.model.specs.Laws.Level.{growth-step, totalAt-cons}
 
 -- a member can take one copy more, or none
@@ -55,10 +56,6 @@ growth-none l h v above = rw (lt-leb l v above)
 pub none-picked : (b : Bool) {g : ℕ} → g ≡ 0 → pick b g 0 ≡ 0
 none-picked true none = none
 none-picked false none = refl
-
--- 1 for a member that can take a copy and has more headroom than one with high t, else 0
-abbrev pub isAhead : ℕ → ℕ → ℕ → ℕ → ℕ
-isAhead l h v t = pick (ltb (headroom t v) (headroom h v)) (growth l h v) 0
 
 module _ (l h v : ℕ) where
   -- it is, where its high is above t

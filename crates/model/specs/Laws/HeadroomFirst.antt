@@ -17,7 +17,8 @@ use Rattle.model.specs.Laws.Least.{lower, partner, same}
 use Rattle.model.specs.Laws.Levelled.{headroom-between, headroom-adds, within-sum-high}
 use Rattle.model.specs.Laws.Lists.{within-length, within-at}
 use Rattle.model.specs.Laws.Ways.{clamped-at, clamped-length}
-use Rattle.model.specs.Laws.Headroom.{Growing, growing, growth-one, growth-most, isAhead, headroomCopy, ahead-above, ahead-none, ahead-most, ahead-rests, roomier-cons, roomier-falls}
+use Rattle.model.specs.Inner.Headroom.{isAhead}
+use Rattle.model.specs.Laws.Headroom.{Growing, growing, growth-one, growth-most, headroomCopy, ahead-above, ahead-none, ahead-most, ahead-rests, roomier-cons, roomier-falls}
 
 -- whether a member takes one: it does where fewer later ones have more headroom than copies are left
 pub data Gets (ahead left g : ℕ) : ℕ → Type 0 where

@@ -11,7 +11,8 @@ use lib.ListN.{length, getD}
 use Rattle.model.specs.Shares.{greatestShare, Ranges, Within, sum, sumOf}
 use Rattle.model.specs.Levels.{clamp, clamped, totalAt, levelBelow, level, growth, remainder, headroom, roomier, byHeadroom, levelled}
 use Rattle.model.specs.Ways.{topped, evened}
-use Rattle.model.specs.Laws.Headroom.{isAhead, headroomCopy, ahead-rests, none-picked}
+use Rattle.model.specs.Inner.Headroom.{isAhead}
+use Rattle.model.specs.Laws.Headroom.{headroomCopy, ahead-rests, none-picked}
 use Rattle.model.specs.Plans.{hasShares}
 use Rattle.model.specs.Laws.Lists.{sum-sumOf}
 use Rattle.model.specs.Laws.Tests.{right-fails}

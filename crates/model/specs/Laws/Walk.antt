@@ -8,8 +8,9 @@ use lib.ListN.{length, getD, set, take, drop, length-set, drop-of-length-le, tak
 use lib.Seq.{drop-cons, drop-drop, drop-set-lt, take-suc-set}
 use Rattle.model.specs.Shares.{sum}
 use Rattle.model.specs.Levels.{clamp, totalAt, roomier, byHeadroom}
-use Rattle.model.specs.Laws.Headroom.{isAhead, headroomCopy, roomier-cons}
-use Rattle.model.specs.Laws.Bars.{Bar, BarTaken, bar-step}
+use Rattle.model.specs.Inner.Headroom.{isAhead, Bar}
+use Rattle.model.specs.Laws.Headroom.{headroomCopy, roomier-cons}
+use Rattle.model.specs.Laws.Bars.{BarTaken, bar-step}
 use Rattle.model.specs.Laws.Level.{totalAt-cons}
 
 -- the sum from i on
