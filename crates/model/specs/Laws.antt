@@ -14,10 +14,12 @@ pub mod Levelled
 pub mod Spread
 pub mod Deviation
 pub mod Pairs
+pub mod Ways
 pub mod Plans
 pub mod Search
 pub mod Pinned
-pub mod Ways
+pub mod Given
+pub mod Rules
 pub mod HeadroomFirst
 pub mod Narrowing
 pub mod Keeping

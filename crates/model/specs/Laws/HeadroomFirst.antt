@@ -4,21 +4,21 @@ use mathlib.Core.Bool.{Bool, true, false}
 use mathlib.Core.List.{List, [], _∷_}
 use mathlib.Core.Logic.{_⊎_, inl, inr}
 use mathlib.Core.Path.{_≡_, refl, sym, ap, _∙_}
-use native.Mathlib.Decide.{decLe, decLt, ℕ-discrete}
+use native.Mathlib.Decide.{decLt, ℕ-discrete}
 use native.Mathlib.Nat.{le-of-suc-le-suc}
-use native.Mathlib.Omega.{arith, by-contra}
+use native.Mathlib.Omega.{arith}
 use lib.Dec.{ltb}
 use lib.ListN.{length, getD}
 use borrow.Author.Tests.{ltb-true, ltb-false}
 use Rattle.model.specs.Shares.{pick, Ranges, sum}
-use Rattle.model.specs.Levels.{clamp, clamped, totalAt, growth, headroom, roomier, byHeadroom, level, remainder, levelled}
+use Rattle.model.specs.Levels.{clamp, totalAt, growth, headroom, roomier, byHeadroom, level, remainder, levelled}
 use Rattle.model.specs.Ways.{HandsOut, CanTake, HeadroomFirst}
 use Rattle.model.specs.Laws.Least.{lower, partner, same}
 use Rattle.model.specs.Laws.Levelled.{headroom-between, headroom-adds, within-sum-high}
 use Rattle.model.specs.Laws.Lists.{within-length, within-at}
-use Rattle.model.specs.Laws.Ways.{clamped-at, clamped-length}
+use Rattle.model.specs.Laws.Given.{clamped-at, clamped-length}
 use Rattle.model.specs.Inner.Headroom.{isAhead}
-use Rattle.model.specs.Laws.Headroom.{Growing, growing, growth-one, growth-most, headroomCopy, ahead-above, ahead-none, ahead-most, ahead-rests, roomier-cons, roomier-falls}
+use Rattle.model.specs.Laws.Headroom.{growth-one, growth-most, headroomCopy, ahead-above, ahead-none, ahead-most, roomier-falls}
 
 -- whether a member takes one: it does where fewer later ones have more headroom than copies are left
 pub data Gets (ahead left g : ℕ) : ℕ → Type 0 where
@@ -175,15 +175,15 @@ module _ {lows highs : List ℕ} (ranges : Ranges lows highs) {v left : ℕ} whe
             let (j, there, more) = partner ys xs (sym many) (sym adds) i (omega arith) less in
             let (canI, noneI, hasI) = differs one other i inside less in
             let (canJ, noneJ, hasJ) = differs other one j there more in
-            absurd (apart (first .first i j inside (omega arith) canI canJ noneI hasJ) (second .first j i there (omega arith) canJ canI noneJ hasI))
+            absurd (apart (headroom (getD highs i 0) v) (headroom (getD highs j 0) v) i j (first .first i j inside (omega arith) canI canJ noneI hasJ) (second .first j i there (omega arith) canJ canI noneJ hasI))
         | inr none ↦ same xs ys many adds none
       ]
     where
-      apart : {a b i j : ℕ} → (a < b) ⊎ ((a ≡ b) × (j < i)) → (b < a) ⊎ ((b ≡ a) × (i < j)) → ⊥
-      apart (inl less) (inl more) = omega arith
-      apart (inl less) (inr equal) = omega arith
-      apart (inr equal) (inl more) = omega arith
-      apart (inr equal) (inr other-equal) = omega arith
+      apart : (a b i j : ℕ) → (a < b) ⊎ ((a ≡ b) × (j < i)) → (b < a) ⊎ ((b ≡ a) × (i < j)) → ⊥
+      apart a b i j (inl less) (inl more) = omega arith
+      apart a b i j (inl less) (inr equal) = omega arith
+      apart a b i j (inr equal) (inl more) = omega arith
+      apart a b i j (inr equal) (inr other-equal) = omega arith
 
   -- and the shares by headroom are the only ones that go by it
   pub headroom-only : {xs : List ℕ} → HandsOut lows highs v left xs → HeadroomFirst lows highs v xs → xs ≡ byHeadroom lows highs v left

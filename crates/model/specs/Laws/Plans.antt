@@ -1,5 +1,5 @@
 -- Least figures; a group has a plan exactly where its even shares are one. Assumes nothing.
-use Prim.Native.Nat.{ℕ, _≤_}
+use Prim.Native.Nat.{ℕ, _+_, _≤_}
 use mathlib.Core.Bool.{true}
 use mathlib.Core.List.{List}
 use mathlib.Core.Path.{_≡_, refl, sym, _∙_}
@@ -9,15 +9,15 @@ use lib.ListN.{length}
 use borrow.Author.Tests.{le-leb, leb-true}
 use Rattle.model.specs.Shares.{Ranges, Within, sum}
 use Rattle.model.specs.Figures.{allows, meets, deviation, spread, pairs, above}
-use Rattle.model.specs.Levels.{levelled}
+use Rattle.model.specs.Levels.{totalAt, level, remainder, levelled}
 use Rattle.model.specs.Ways.{evened}
 use Rattle.model.specs.Plans.{Plan, hasShares, hasPlan}
 use Rattle.model.specs.Laws.Tests.{both, both-left, both-right}
 use Rattle.model.specs.Transfers.{SchurConvex}
 use Rattle.model.specs.Laws.Transfer.{deviation-schur, spread-schur, above-schur}
 use Rattle.model.specs.Laws.Pairs.{pairs-schur}
-use Rattle.model.specs.Laws.Least.{least}
-use Rattle.model.specs.Laws.Levelled.{evened-within, evened-even, evened-adds, levelled-within, levelled-even, levelled-adds, within-sum-low, within-sum-high}
+use Rattle.model.specs.Laws.Levelled.{evened-way, evened-within, evened-adds, levelled-way, remainder-adds, within-sum-low, within-sum-high}
+use Rattle.model.specs.Laws.Ways.{way-least}
 use Rattle.model.specs.declared.Limit.{Limit}
 use Rattle.model.specs.declared.Limit.the-variants.{Any, AtMost}
 use Rattle.model.specs.declared.Limits.{Limits}
@@ -38,7 +38,7 @@ meets-less limits n total xs ys less held =
     (allows-less (limits .spread) (less (spread n total) (spread-schur n total)) (both-left _ _ others))
     (allows-less (limits .pairs) (less pairs pairs-schur) (both-right (allows (limits .spread) (spread n total xs)) _ others)))
 
--- even shares and the levelled ones have the least of every figure that an exchange never raises, among the shares with their total
+-- even shares and the levelled ones, two ways to hand out the copies left over, have the least of every figure that an exchange never raises
 module _ {lows highs xs : List ℕ} (ranges : Ranges lows highs) (total : ℕ) (within : Within lows highs xs) (adds : sum xs ≡ total)
     (F : List ℕ → ℕ) (convex : SchurConvex F) where
   low : sum lows ≤ total
@@ -47,11 +47,14 @@ module _ {lows highs xs : List ℕ} (ranges : Ranges lows highs) (total : ℕ) (
   high : total ≤ sum highs
   high = omega (arith, within-sum-high within)
 
+  whole : sum xs ≡ totalAt lows highs (level lows highs total) + remainder lows highs total
+  whole = adds ∙ sym (remainder-adds ranges total low high)
+
   pub evened-least : F (evened lows highs total) ≤ F xs
-  evened-least = least convex (evened-within ranges total) (evened-even ranges total) within (adds ∙ sym (evened-adds ranges total low high))
+  evened-least = way-least ranges (evened-way ranges total low high) within whole F convex
 
   pub levelled-least : F (levelled lows highs total) ≤ F xs
-  levelled-least = least convex (levelled-within ranges total) (levelled-even ranges total) within (adds ∙ sym (levelled-adds ranges total low high))
+  levelled-least = way-least ranges (levelled-way ranges total low high) within whole F convex
 
 -- so the least deviation, the least spread, the least pair differences and the least total above every t
 pub least-deviation : {lows highs xs : List ℕ} → Ranges lows highs → (total : ℕ) → Within lows highs xs → sum xs ≡ total

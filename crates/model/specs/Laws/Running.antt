@@ -9,7 +9,7 @@ use lib.Dec.{leb, ltb}
 use borrow.Author.Tests.{le-ltb, eqb-true}
 use lib.ListN.{length, getD}
 use Rattle.model.specs.Shares.{greatestShare, Ranges, Within, sum, sumOf}
-use Rattle.model.specs.Levels.{clamp, clamped, totalAt, levelBelow, level, growth, remainder, headroom, roomier, byHeadroom, levelled}
+use Rattle.model.specs.Levels.{clamp, clamped, totalAt, levelBelow, level, growth, remainder, roomier, byHeadroom, levelled}
 use Rattle.model.specs.Ways.{topped, evened}
 use Rattle.model.specs.Inner.Headroom.{isAhead}
 use Rattle.model.specs.Laws.Headroom.{headroomCopy, ahead-rests, none-picked}

@@ -16,7 +16,8 @@ use Rattle.model.specs.Laws.Deviation.{deviation-bound, levelled-reaches
 use Rattle.model.specs.Laws.Levelled.{levelled-way, levelled-within, evened-way, evened-within}
 use Rattle.model.specs.Laws.Pairs.{pairs-schur}
 use Rattle.model.specs.Laws.Plans.{levelled-least, plan-found}
-use Rattle.model.specs.Laws.Ways.{levelled-plan, ways-figures}
+use Rattle.model.specs.Laws.Rules.{levelled-plan}
+use Rattle.model.specs.Laws.Ways.{ways-figures}
 use Rattle.model.specs.Laws.Running.{running-ranges, running-within, running-sum, running-levelled, running-evened, running-lows, running-highs}
 use Rattle.model.specs.Laws.Marked.{running-counted, restored-within, running-restored, restored-running, marked-plan, plan-marked}
 use Rattle.model.specs.Laws.Transfer.{deviation-schur, spread-schur, above-schur}

@@ -17,7 +17,8 @@ use Rattle.model.specs.Laws.Lists.{ranges-at, within-at, within-length}
 use Rattle.model.specs.Laws.Pinned.{plan-taken}
 use Rattle.model.specs.Laws.Plans.{found-plan}
 use Rattle.model.specs.Laws.Tests.{clash}
-use Rattle.model.specs.Laws.Ways.{way-within, way-copy, way-none, ways-figures}
+use Rattle.model.specs.Laws.Given.{way-copy, way-none}
+use Rattle.model.specs.Laws.Ways.{way-within, ways-figures}
 use Rattle.model.specs.declared.Limits.{Limits}
 use Rattle.probe.specs.Inner.Pinned.{Reached}
 use Rattle.probe.specs.Laws.Pinned.{reached-figures}

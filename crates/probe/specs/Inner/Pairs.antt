@@ -2,7 +2,7 @@
 use Prim.Native.Nat.{ℕ, suc, _+_, _-_, _*_, _≤_, _<_, min}
 use mathlib.Core.List.{List}
 use mathlib.Core.Path.{_≡_}
-use Rattle.model.specs.Shares.{greatestShare, mostUnits}
+use Rattle.model.specs.Shares.{mostUnits}
 use Rattle.model.specs.Figures.{pairs}
 use Rattle.model.specs.Levels.{clamp, clamped}
 use Rattle.model.specs.Ways.{topped}

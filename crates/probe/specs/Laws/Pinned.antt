@@ -12,7 +12,7 @@ use Rattle.model.specs.Figures.{deviation, spread, pairs, figuresOf}
 use Rattle.model.specs.Levels.{clamp, clamped, totalAt, growth}
 use Rattle.model.specs.Ways.{topped, evened}
 use Rattle.model.specs.Laws.Least.{least}
-use Rattle.model.specs.Laws.Lists.{ranges-at, ranges-length, sum-sumOf}
+use Rattle.model.specs.Laws.Lists.{ranges-at, sum-sumOf}
 use Rattle.model.specs.Laws.Levelled.{topped-between, topped-within, topped-near, topped-adds, near-even, evened-within, evened-adds, shares-exist}
 use Rattle.model.specs.Laws.Pairs.{pairs-schur}
 use Rattle.model.specs.Laws.Plans.{evened-least}

@@ -11,7 +11,7 @@ use lib.ListN.{length}
 use borrow.Author.Tests.{le-leb, lt-leb, le-ltb}
 use Rattle.model.specs.Shares.{Ranges, Within, greatestShare, greatestTotal, sum, sumOf, mostUnits}
 use Rattle.model.specs.Figures.{met, allows, figuresOf, deviation, spread, pairs}
-use Rattle.model.specs.Levels.{clamped, totalAt, growth}
+use Rattle.model.specs.Levels.{totalAt, growth}
 use Rattle.model.specs.Ways.{topped, evened}
 use Rattle.model.specs.Plans.{hasPlan}
 use Rattle.model.specs.declared.Figures.{Figures}

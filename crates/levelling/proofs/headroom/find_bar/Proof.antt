@@ -1,7 +1,7 @@
 -- The bar lies between a number with enough members above it and one with no more than there are copies. Assumes nothing.
 use borrow.Author.Needs.{needs}
 use native.Mathlib.Omega.{arith}
-use mathlib.Core.Path.{sym, _∙_}
+use mathlib.Core.Path.{sym}
 use Prim.Native.Nat.{_-_}
 use Rattle.model.specs.Laws.Bars.{bar-exact, bar-between}
 use Rattle.model.specs.Laws.Headroom.{roomier-none}

@@ -1,5 +1,4 @@
 -- One case for each reason why a member is ahead or not. Assumes nothing.
-use borrow.Author.Needs.{needs}
 use mathlib.Core.Path.{sym, _∙_}
 use native.Mathlib.Omega.{arith}
 use Rattle.model.specs.Laws.Headroom.{growth-none, growth-one, ahead-rests, ahead-none, ahead-above}
