@@ -1,6 +1,5 @@
 -- What only inner contracts use, a file for each topic.
 pub mod Searching
-pub mod Headroom
 pub mod Shared
 pub mod Units
 pub mod Members

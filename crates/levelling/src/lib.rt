@@ -18,7 +18,6 @@ ghost use Rattle.model.specs.Sound.{SoundRanges, HasShares};
 ghost use Rattle.levelling.specs.Levelling.{levelledTo, planAfter};
 
 pub mod checks;
-mod headroom;
 mod levels;
 pub mod members;
 pub mod plans;

@@ -1,7 +1,7 @@
 // The shares of a group at its level.
-use crate::headroom::bar_for;
-use crate::headroom::one_above;
-use crate::headroom::one_at;
+use headroom::bar_for;
+use headroom::one_above;
+use headroom::one_at;
 use model::levels::clamp;
 ghost use mathlib.Core.Path.{_≡_};
 ghost use Prim.Native.Nat.{_≤_};
@@ -9,7 +9,7 @@ ghost use mathlib.Core.List.{_++_};
 ghost use lib.ListN.{length, drop};
 ghost use Rattle.model.specs.Levels.{byHeadroom};
 ghost use Rattle.levelling.specs.Additions.{KnownLevel};
-ghost use Rattle.levelling.specs.Inner.Headroom.{HasTakers};
+ghost use Rattle.headroom.specs.Inner.Takers.{HasTakers};
 
 // Writes the shares at the level, which has to be known, with the copies left over handed out by headroom, over the first
 // numbers of a plan.

@@ -11,7 +11,7 @@ use Rattle.model.specs.Laws.Level.{level-share}
 use Rattle.model.specs.Laws.Levelled.{remainder-fits}
 use Rattle.model.specs.Laws.Sound.{level-within}
 use Rattle.levelling.specs.Additions.{mostAdditions, ByHalving, KnownLevel}
-use Rattle.levelling.specs.Inner.Headroom.{HasTakers}
+use Rattle.headroom.specs.Inner.Takers.{HasTakers}
 
 -- where nothing more is added up, any number of levels allows it
 pub halved-none : (levels count : ℕ) → ByHalving levels count count

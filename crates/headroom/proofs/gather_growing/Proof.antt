@@ -7,8 +7,8 @@ use lib.ListN.{length, getD, drop, drop-of-length-le}
 use Rattle.model.specs.Levels.{roomier}
 use Rattle.model.specs.Laws.Headroom.{ahead-own, growth-most}
 use Rattle.model.specs.Laws.Walk.{roomier-walk}
-use Rattle.levelling.proofs.headroom.gather_growing.Statement.{statement}
-use Rattle.levelling.proofs.headroom.gather_growing.Tie as tie
+use Rattle.headroom.proofs.gather_growing.Statement.{statement}
+use Rattle.headroom.proofs.gather_growing.Tie as tie
 
 abbrev Inv-loop : tie.InvT-loop
 Inv-loop lows highs v out₀ count₀ i₀ out count i =

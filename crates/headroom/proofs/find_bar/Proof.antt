@@ -5,9 +5,9 @@ use mathlib.Core.Path.{sym}
 use Prim.Native.Nat.{_-_}
 use Rattle.model.specs.Laws.Bars.{bar-exact, bar-between}
 use Rattle.model.specs.Laws.Headroom.{roomier-none}
-use Rattle.levelling.specs.Inner.Headroom.{BarBetween}
-use Rattle.levelling.proofs.headroom.find_bar.Statement.{statement}
-use Rattle.levelling.proofs.headroom.find_bar.Tie as tie
+use Rattle.headroom.specs.Inner.Takers.{BarBetween}
+use Rattle.headroom.proofs.find_bar.Statement.{statement}
+use Rattle.headroom.proofs.find_bar.Tie as tie
 
 abbrev Inv-loop : tie.InvT-loop
 Inv-loop lows highs v left guess under₀ bar₀ above₀ under bar above = BarBetween lows highs v left under bar above

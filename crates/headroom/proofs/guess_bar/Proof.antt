@@ -3,8 +3,8 @@ use borrow.Author.Needs.{needs}
 use native.Mathlib.Omega.{arith}
 use mathlib.Core.Path.{sym}
 use lib.Seq.{length-take-le}
-use Rattle.levelling.proofs.headroom.guess_bar.Statement.{statement}
-use Rattle.levelling.proofs.headroom.guess_bar.Tie as tie
+use Rattle.headroom.proofs.guess_bar.Statement.{statement}
+use Rattle.headroom.proofs.guess_bar.Tie as tie
 
 gather-growing-requires : tie.Need-gather-growing-requires
 gather-growing-requires c κs = search needs

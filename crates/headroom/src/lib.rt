@@ -10,7 +10,7 @@ ghost use lib.ListN.{length};
 ghost use Rattle.model.specs.Levels.{roomier};
 ghost use Rattle.model.specs.Inner.Headroom.{isAhead, Bar, copyAt};
 ghost use Rattle.model.specs.Sound.{SoundRanges};
-ghost use Rattle.levelling.specs.Inner.Headroom.{HasTakers};
+ghost use Rattle.headroom.specs.Inner.Takers.{HasTakers};
 
 // Copies go to the members with a high above the bar, and the rest to the first with just that high.
 pub struct HeadroomBar {

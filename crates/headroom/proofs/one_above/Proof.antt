@@ -2,8 +2,8 @@
 use mathlib.Core.Path.{sym, _∙_}
 use native.Mathlib.Omega.{arith}
 use Rattle.model.specs.Laws.Headroom.{growth-none, growth-one, ahead-rests, ahead-none, ahead-above}
-use Rattle.levelling.proofs.headroom.one_above.Statement.{statement}
-use Rattle.levelling.proofs.headroom.one_above.Tie as tie
+use Rattle.headroom.proofs.one_above.Statement.{statement}
+use Rattle.headroom.proofs.one_above.Tie as tie
 
 returns : tie.Need-returns
 returns c =

@@ -3,8 +3,8 @@ use borrow.Author.Needs.{needs}
 use native.Mathlib.Omega.{arith}
 use mathlib.Core.Path.{sym, _∙_}
 use Rattle.model.specs.Laws.Bars.{at-here, at-away}
-use Rattle.levelling.proofs.headroom.one_at.Statement.{statement}
-use Rattle.levelling.proofs.headroom.one_at.Tie as tie
+use Rattle.headroom.proofs.one_at.Statement.{statement}
+use Rattle.headroom.proofs.one_at.Tie as tie
 
 extra-requires : tie.Need-extra-requires
 extra-requires c κs = search needs

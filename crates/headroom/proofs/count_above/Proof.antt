@@ -7,8 +7,8 @@ use lib.ListN.{length, drop, drop-of-length-le}
 use Rattle.model.specs.Levels.{roomier}
 use Rattle.model.specs.Laws.Headroom.{roomier-few}
 use Rattle.model.specs.Laws.Walk.{roomier-walk}
-use Rattle.levelling.proofs.headroom.count_above.Statement.{statement}
-use Rattle.levelling.proofs.headroom.count_above.Tie as tie
+use Rattle.headroom.proofs.count_above.Statement.{statement}
+use Rattle.headroom.proofs.count_above.Tie as tie
 
 abbrev Inv-loop : tie.InvT-loop
 Inv-loop lows highs v other count₀ i₀ count i =

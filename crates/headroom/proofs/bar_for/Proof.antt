@@ -2,8 +2,8 @@
 use borrow.Author.Needs.{needs}
 use native.Mathlib.Omega.{arith}
 use Rattle.model.specs.Laws.Bars.{bar-none}
-use Rattle.levelling.proofs.headroom.bar_for.Statement.{statement}
-use Rattle.levelling.proofs.headroom.bar_for.Tie as tie
+use Rattle.headroom.proofs.bar_for.Statement.{statement}
+use Rattle.headroom.proofs.bar_for.Tie as tie
 
 returns : tie.Need-returns
 returns c =
