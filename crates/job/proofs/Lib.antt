@@ -2,3 +2,4 @@ pub mod Closing
 pub mod Lending
 pub mod Passing
 pub mod Releasing
+pub mod Laws

@@ -9,4 +9,3 @@ pub mod Whole
 pub mod Before
 pub mod Ailing
 pub mod Inner
-pub mod Laws

@@ -2,4 +2,3 @@ pub mod Checks
 pub mod Findings
 pub mod First
 pub mod Inner
-pub mod Laws

@@ -14,4 +14,3 @@ pub mod Narrowing
 pub mod Transfers
 pub mod Verdicts
 pub mod Inner
-pub mod Laws

@@ -10,4 +10,3 @@ pub mod Orders
 pub mod Program
 pub mod Known
 pub mod Inner
-pub mod Laws

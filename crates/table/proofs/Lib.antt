@@ -1,2 +1,3 @@
 pub mod Thin
 pub mod Walks
+pub mod Laws

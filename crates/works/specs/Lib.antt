@@ -8,4 +8,3 @@ pub mod Called
 pub mod Endings
 pub mod Reordering
 pub mod Inner
-pub mod Laws

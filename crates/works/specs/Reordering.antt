@@ -2,7 +2,7 @@
 use Rattle.std.specs.Prelude.{ℕ, List, length}
 use Rattle.std.proofs.Common.{ap}
 use Rattle.job.specs.Orders.{Reordered}
-use Rattle.job.specs.Laws.Orders.{reordered_accepted}
+use Rattle.job.proofs.Laws.Orders.{reordered_accepted}
 use Rattle.works.specs.Called.{Cleared}
 
 module _ {text other lows highs : List ℕ} {scratch : ℕ} (cleared : Cleared text lows highs scratch) (reordered : Reordered text other) where

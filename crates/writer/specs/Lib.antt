@@ -2,4 +2,3 @@ pub mod Calls
 pub mod Promises
 pub mod Handing
 pub mod Inner
-pub mod Laws

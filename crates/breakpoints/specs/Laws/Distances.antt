@@ -7,7 +7,7 @@ use native.Mathlib.Omega.{arith, by_contra}
 use Rattle.model.specs.Shares.{Ranges, sum_of}
 use Rattle.model.specs.Figures.{apart, pairs}
 use Rattle.model.specs.Levels.{clamp, clamped}
-use Rattle.model.specs.Laws.Level.{total_at_mono}
+use Rattle.model.proofs.Laws.Level.{total_at_mono}
 use Rattle.breakpoints.specs.Inner.Distances.{LowsPassed}
 use Rattle.breakpoints.specs.Inner.Spans.{Span}
 use Rattle.breakpoints.specs.Inner.Tables.{itself}

@@ -5,7 +5,7 @@ use native.Mathlib.Omega.{arith}
 use Rattle.model.specs.Shares.{sum_of}
 use Rattle.model.specs.Figures.{apart, pairs}
 use Rattle.breakpoints.specs.Inner.Distances.{above_level}
-use Rattle.model.specs.Laws.Pairs.{distances, sum_of_plus, sum_of_same, apart_swap, pairs_twice}
+use Rattle.model.proofs.Laws.Pairs.{distances, sum_of_plus, sum_of_same, apart_swap, pairs_twice}
 
 -- a multiple of each part is one of the sum
 sum_of_times : (c : ℕ) (f : ℕ → ℕ) (xs : List ℕ) → sum_of (λ x. c * f x) xs ≡ c * sum_of f xs

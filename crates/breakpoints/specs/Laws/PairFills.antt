@@ -6,9 +6,9 @@ use Rattle.model.specs.Figures.{apart, pairs}
 use Rattle.model.specs.Inner.Orders.{Rising, Ordered}
 use Rattle.model.specs.Levels.{clamped}
 use Rattle.model.specs.Shares.{sum, sum_of, greatest_share, greatest_total, most_units}
-use Rattle.model.specs.Laws.Lists.{sum_sum_of}
+use Rattle.model.proofs.Laws.Lists.{sum_sum_of}
 use Rattle.model.specs.Sound.{SoundRanges}
-use Rattle.model.specs.Laws.Pairs.{sum_of_same, pairs_same}
+use Rattle.model.proofs.Laws.Pairs.{sum_of_same, pairs_same}
 use Rattle.breakpoints.specs.declared.distances.Distances.{Distances}
 use Rattle.breakpoints.specs.declared.rows.PairRow.{PairRow}
 use Rattle.breakpoints.specs.declared.rows.Row.{Row}

@@ -6,8 +6,8 @@ use Rattle.model.specs.Inner.Orders.{Rearranged}
 use Rattle.model.specs.Shares.{Ranges, greatest_share, greatest_total, most_units, sum, sum_of}
 use Rattle.model.specs.Figures.{apart, pairs}
 use Rattle.model.specs.Levels.{clamp, clamped}
-use Rattle.model.specs.Laws.Lists.{sum_sum_of}
-use Rattle.model.specs.Laws.Pairs.{pairs_small}
+use Rattle.model.proofs.Laws.Lists.{sum_sum_of}
+use Rattle.model.proofs.Laws.Pairs.{pairs_small}
 use Rattle.breakpoints.specs.declared.distances.Distances.{Distances}
 use Rattle.breakpoints.specs.declared.rows.PairRow.{PairRow}
 use Rattle.breakpoints.specs.declared.rows.Row.{Row}

@@ -9,9 +9,9 @@ use Rattle.breakpoints.specs.declared.rows.PairRow.{PairRow}
 use Rattle.breakpoints.specs.Inner.Rows.{row_at, pair_row_at, last_row, RowWritten, PairRowWritten}
 
 -- a table with room for just so many rows after the first
-pub last_row : (table : List ℕ) (last : ℕ) → length table ≡ 7 * last + 7 → last_row table ≡ last
+pub last_row_lem : (table : List ℕ) (last : ℕ) → length table ≡ 7 * last + 7 → last_row table ≡ last
 unfolding last_row
-last_row table last size =
+last_row_lem table last size =
     let below : length table % 7 < 7 = mod-lt (length table) (omega arith) in
     omega (arith, div-add-mod (length table) 7)
 

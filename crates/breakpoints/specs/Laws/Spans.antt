@@ -3,8 +3,8 @@ use Rattle.std.specs.Prelude.{ℕ, zero, suc, ◌+◌, ◌-◌, ◌*◌, ◌≤�
 use Rattle.std.proofs.Math.Decide.{dec_lt}
 use Rattle.std.proofs.Common.{arith}
 use Rattle.model.specs.Shares.{Ranges, sum_of}
-use Rattle.model.specs.Laws.Lists.{ranges_length}
-use Rattle.model.specs.Laws.Spread.{sum_of_bound}
+use Rattle.model.proofs.Laws.Lists.{ranges_length}
+use Rattle.model.proofs.Laws.Spread.{sum_of_bound}
 use Rattle.breakpoints.specs.Laws.Sums.{clamped_sum, part_at_most}
 use Rattle.model.specs.Inner.Orders.{Rearranged}
 use Rattle.breakpoints.specs.Inner.Spans.{Parted, Span}

@@ -3,7 +3,7 @@ use Rattle.std.specs.Prelude.{ℕ, ◌+◌, ◌≤◌, ◌<◌, List, ◌≡◌,
 use Rattle.std.proofs.Common.{le_refl, add-one, arith}
 use Rattle.model.specs.Shares.{Ranges, greatest_share}
 use Rattle.model.specs.Sound.{SoundRanges}
-use Rattle.model.specs.Laws.Lists.{ranges_at}
+use Rattle.model.proofs.Laws.Lists.{ranges_at}
 use Rattle.breakpoints.specs.declared.rows.Row.{Row}
 use Rattle.model.specs.Inner.Orders.{Rising}
 use Rattle.breakpoints.specs.Laws.Kept.{kept_ranges, kept_few, kept_span}

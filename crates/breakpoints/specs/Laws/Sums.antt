@@ -9,7 +9,7 @@ use native.Mathlib.Omega.{arith}
 use Rattle.std.proofs.Math.Numerals.{add-one}
 use Rattle.model.specs.Shares.{Ranges, Within, sum, sum_of}
 use Rattle.model.specs.Levels.{clamp, clamped, total_at}
-use Rattle.model.specs.Laws.Levelled.{LevelOrNext, within_sum_low}
+use Rattle.model.proofs.Laws.Levelled.{LevelOrNext, within_sum_low}
 
 -- a product with a sum
 parts : (a b : ℕ) {c : ℕ} (x : ℕ) → a + b ≡ c → a * x + b * x ≡ c * x

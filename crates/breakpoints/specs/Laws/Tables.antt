@@ -3,8 +3,8 @@ use Rattle.std.specs.Prelude.{ℕ, suc, ◌+◌, ◌-◌, ◌*◌, ◌≤◌, Li
 use Rattle.std.proofs.Common.{ap, mul-le-mul, arith}
 use Rattle.model.specs.Shares.{Ranges, greatest_share, sum_of}
 use Rattle.model.specs.Levels.{clamp, clamped, total_at}
-use Rattle.model.specs.Laws.Level.{clamp_at_most, total_at_mono}
-use Rattle.model.specs.Laws.Lists.{sum_sum_of}
+use Rattle.model.proofs.Laws.Level.{clamp_at_most, total_at_mono}
+use Rattle.model.proofs.Laws.Lists.{sum_sum_of}
 use Rattle.breakpoints.specs.Inner.Spans.{Span}
 use Rattle.breakpoints.specs.Inner.Tables.{itself, square, greatest_part}
 

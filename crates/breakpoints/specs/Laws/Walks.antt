@@ -2,8 +2,8 @@
 use Rattle.std.specs.Prelude.{ℕ, suc, ◌-◌, ◌≤◌, ◌<◌, List, ◌≡◌, length, get_or}
 use Rattle.std.proofs.Common.{arith}
 use Rattle.model.specs.Inner.Orders.{Rearranged, Rising}
-use Rattle.model.specs.Laws.Orders.{rising}
-use Rattle.model.specs.Laws.Spread.{sum_of_bound}
+use Rattle.model.proofs.Laws.Orders.{rising}
+use Rattle.model.proofs.Laws.Spread.{sum_of_bound}
 use Rattle.breakpoints.specs.Inner.Spans.{Parted}
 use Rattle.breakpoints.specs.Laws.Sums.{part_at_most}
 

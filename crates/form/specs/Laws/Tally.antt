@@ -4,7 +4,7 @@ use Rattle.std.proofs.Common.{sym, ap, ◌∙◌, arith}
 use Rattle.std.proofs.lemmas.List.Edits.{sets}
 use Rattle.text.specs.Parsed.{Parsed, parsed, failed, and_then, mapped, or_else}
 use Rattle.text.specs.Laws.Parsed.{mapped_like, mapped_parsed}
-use Rattle.model.specs.Laws.Tests.{and_true, and_assoc}
+use Rattle.model.proofs.Laws.Tests.{and_true, and_assoc}
 use Rattle.text.specs.Inner.Numbers.{held}
 use Rattle.text.specs.Laws.Printed.{number_after_shorter}
 use Rattle.form.specs.Form.{is_said, Heading, limits_said, GroupLine, space, number_as, members_as, grouped, group_as}

@@ -5,7 +5,7 @@ use lib.Dec.{leb}
 use lib.ListN.{length}
 use Rattle.model.specs.Shares.{greatest_total}
 use Rattle.list_checks.specs.Checks.{check_lists}
-use Rattle.list_checks.specs.Laws.Findings.{check_exactly, passed_sound, passed_marked}
+use Rattle.list_checks.proofs.Laws.Findings.{check_exactly, passed_sound, passed_marked}
 use Rattle.levelling.specs.Levelling.{levelling}
 use Rattle.list_checks.specs.declared.Check.TheVariants.{Passed}
 use Rattle.group.proofs.level.Statement.{statement}

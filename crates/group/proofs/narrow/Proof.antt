@@ -3,7 +3,7 @@ use borrow.Author.Rules.{rules}
 use mathlib.Core.Path.{◌≡◌, refl}
 use lib.ListN.{length}
 use Rattle.list_checks.specs.Checks.{amounts_within, check_lists}
-use Rattle.list_checks.specs.Laws.Findings.{check_exactly, passed_sound, passed_marked}
+use Rattle.list_checks.proofs.Laws.Findings.{check_exactly, passed_sound, passed_marked}
 use Rattle.group.specs.Narrowing.{narrowing}
 use Rattle.group.specs.Laws.Narrowing.{answer_narrowed, answer_refused}
 use Rattle.narrow.specs.Laws.Turns.{after_narrowed, after_refused}

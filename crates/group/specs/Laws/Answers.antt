@@ -2,10 +2,10 @@
 use Rattle.std.specs.Prelude.{ℕ, ◌≤◌, List, ◌↔◌, ◌⊎◌, ◌≡◌, refl, length}
 use Rattle.std.proofs.Common.{inl, inr, arith}
 use Rattle.model.specs.Running.{running, MarkedPlans, marked_turn}
-use Rattle.model.specs.Laws.Running.{running_ranges}
-use Rattle.model.specs.Laws.Shut.{marked_shares, marked_plans}
+use Rattle.model.proofs.Laws.Running.{running_ranges}
+use Rattle.model.proofs.Laws.Shut.{marked_shares, marked_plans}
 use Rattle.model.specs.Verdicts.{Shares, Plans, Verdict}
-use Rattle.model.specs.Laws.Turns.{verdict, verdict_exactly}
+use Rattle.model.proofs.Laws.Turns.{verdict, verdict_exactly}
 use Rattle.model.specs.declared.Limits.{Limits}
 use Rattle.model.specs.declared.Refusal.{Refusal}
 use Rattle.model.specs.declared.Turn.{Turn}
@@ -15,7 +15,7 @@ use Rattle.list_checks.specs.declared.Check.{Check}
 use Rattle.list_checks.specs.declared.Check.TheVariants.{Passed, Failed}
 use Rattle.group.specs.declared.Narrowing.{Narrowing}
 use Rattle.group.specs.declared.Narrowing.TheVariants as narrow
-use Rattle.list_checks.specs.Laws.Findings.{check_exactly, passed_sound, passed_marked, check_number, check_between}
+use Rattle.list_checks.proofs.Laws.Findings.{check_exactly, passed_sound, passed_marked, check_number, check_between}
 use Rattle.list_checks.specs.Findings.{CheckNumber}
 use Rattle.group.specs.Answers.{NarrowChecks, NarrowFinding}
 

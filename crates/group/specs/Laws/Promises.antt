@@ -1,15 +1,15 @@
 -- Narrowing one group keeps what it promises of the lists after the call. Assumes nothing.
 use Rattle.std.specs.Prelude.{ℕ, List, ◌≡◌, refl}
 use Rattle.model.specs.Running.{marked_lows, marked_highs}
-use Rattle.model.specs.Laws.Plans.{plan_found}
-use Rattle.model.specs.Laws.Running.{running_ranges}
-use Rattle.model.specs.Laws.Marked.{marked_plan}
-use Rattle.model.specs.Laws.ShutNarrowing.{marked_ranges, marked_inside, marked_exactly}
+use Rattle.model.proofs.Laws.Plans.{plan_found}
+use Rattle.model.proofs.Laws.Running.{running_ranges}
+use Rattle.model.proofs.Laws.Marked.{marked_plan}
+use Rattle.model.proofs.Laws.ShutNarrowing.{marked_ranges, marked_inside, marked_exactly}
 use Rattle.model.specs.declared.Limits.{Limits}
 use Rattle.model.specs.declared.Refusal.{Refusal}
 use Rattle.group.specs.Narrowing.{narrowing}
 use Rattle.group.specs.declared.Narrowing.TheVariants as narrow
-use Rattle.list_checks.specs.Laws.Findings.{passed_sound, passed_marked}
+use Rattle.list_checks.proofs.Laws.Findings.{passed_sound, passed_marked}
 use Rattle.group.specs.Answers.{NarrowFinding}
 use Rattle.group.specs.Laws.Answers.{narrow_exactly}
 use Rattle.group.specs.Promises.{NarrowPromise, lows_left, highs_left}

@@ -3,9 +3,9 @@ use Rattle.std.specs.Prelude.{ℕ, List, ◌≡◌, length}
 use Rattle.std.proofs.Common.{sym, ◌∙◌}
 use Rattle.model.specs.Running.{running, restored, Marked}
 use Rattle.model.specs.Shares.{Ranges}
-use Rattle.model.specs.Laws.Lists.{lows_within, highs_within}
-use Rattle.model.specs.Laws.Running.{marked_length, nobody_shut, running_all}
-use Rattle.model.specs.Laws.Marked.{restored_running, restored_all}
+use Rattle.model.proofs.Laws.Lists.{lows_within, highs_within}
+use Rattle.model.proofs.Laws.Running.{marked_length, nobody_shut, running_all}
+use Rattle.model.proofs.Laws.Marked.{restored_running, restored_all}
 use Rattle.model.specs.declared.Limits.{Limits}
 use Rattle.model.specs.declared.Turn.{Turn}
 use Rattle.model.specs.declared.Turn.TheVariants.{NoPlan}

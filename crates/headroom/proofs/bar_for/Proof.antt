@@ -1,7 +1,7 @@
 -- No copies need no bar but the greatest share. Assumes nothing.
 use borrow.Author.Rules.{rules}
 use native.Mathlib.Omega.{arith}
-use Rattle.model.specs.Laws.Bars.{bar_none}
+use Rattle.model.proofs.Laws.Bars.{bar_none}
 use Rattle.headroom.proofs.bar_for.Statement.{statement}
 use Rattle.headroom.proofs.bar_for.Tie as tie
 

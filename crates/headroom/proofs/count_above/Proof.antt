@@ -5,8 +5,8 @@ use mathlib.Core.Path.{◌≡◌}
 use Prim.Native.Nat.{◌+◌, ◌-◌, ◌≤◌}
 use lib.ListN.{length, drop, drop_of_length-le}
 use Rattle.model.specs.Levels.{roomier}
-use Rattle.model.specs.Laws.Headroom.{roomier_few}
-use Rattle.model.specs.Laws.Walk.{roomier_walk}
+use Rattle.model.proofs.Laws.Headroom.{roomier_few}
+use Rattle.model.proofs.Laws.Walk.{roomier_walk}
 use Rattle.headroom.proofs.count_above.Statement.{statement}
 use Rattle.headroom.proofs.count_above.Tie as tie
 

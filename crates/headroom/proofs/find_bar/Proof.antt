@@ -3,8 +3,8 @@ use borrow.Author.Rules.{rules}
 use native.Mathlib.Omega.{arith}
 use mathlib.Core.Path.{sym}
 use Prim.Native.Nat.{◌-◌}
-use Rattle.model.specs.Laws.Bars.{bar_exact, bar_between}
-use Rattle.model.specs.Laws.Headroom.{roomier_none}
+use Rattle.model.proofs.Laws.Bars.{bar_exact, bar_between}
+use Rattle.model.proofs.Laws.Headroom.{roomier_none}
 use Rattle.headroom.specs.Inner.Takers.{BarBetween}
 use Rattle.headroom.proofs.find_bar.Statement.{statement}
 use Rattle.headroom.proofs.find_bar.Tie as tie

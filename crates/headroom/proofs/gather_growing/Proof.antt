@@ -5,8 +5,8 @@ use mathlib.Core.Path.{◌≡◌}
 use Prim.Native.Nat.{◌+◌, ◌-◌, ◌≤◌}
 use lib.ListN.{length, get_or, drop, drop_of_length-le}
 use Rattle.model.specs.Levels.{roomier}
-use Rattle.model.specs.Laws.Headroom.{ahead_own, growth_most}
-use Rattle.model.specs.Laws.Walk.{roomier_walk}
+use Rattle.model.proofs.Laws.Headroom.{ahead_own, growth_most}
+use Rattle.model.proofs.Laws.Walk.{roomier_walk}
 use Rattle.headroom.proofs.gather_growing.Statement.{statement}
 use Rattle.headroom.proofs.gather_growing.Tie as tie
 

@@ -1,7 +1,7 @@
 -- One case for each reason why a member is ahead or not. Assumes nothing.
 use mathlib.Core.Path.{sym, ◌∙◌}
 use native.Mathlib.Omega.{arith}
-use Rattle.model.specs.Laws.Headroom.{growth_none, growth_one, ahead_rests, ahead_none, ahead_above}
+use Rattle.model.proofs.Laws.Headroom.{growth_none, growth_one, ahead_rests, ahead_none, ahead_above}
 use Rattle.headroom.proofs.one_above.Statement.{statement}
 use Rattle.headroom.proofs.one_above.Tie as tie
 

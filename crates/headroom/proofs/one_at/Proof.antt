@@ -2,7 +2,7 @@
 use borrow.Author.Rules.{rules}
 use native.Mathlib.Omega.{arith}
 use mathlib.Core.Path.{sym, ◌∙◌}
-use Rattle.model.specs.Laws.Bars.{at_here, at_away}
+use Rattle.model.proofs.Laws.Bars.{at_here, at_away}
 use Rattle.headroom.proofs.one_at.Statement.{statement}
 use Rattle.headroom.proofs.one_at.Tie as tie
 

@@ -1,6 +1,6 @@
 -- Measured against the table, and copied. Assumes nothing.
 use lib.ListN.{length}
-use Rattle.job.specs.Laws.Reading.{filled_refused, filled_accepted, table_short, table_short_highs, table_fits}
+use Rattle.job.proofs.Laws.Reading.{filled_refused, filled_accepted, table_short, table_short_highs, table_fits}
 use native.Mathlib.Omega.{arith}
 use borrow.Author.Rules.{rules}
 use Rattle.job.proofs.fill.Statement.{statement}

@@ -2,7 +2,7 @@
 use mathlib.Core.Path.{◌≡◌, sym, ◌∙◌}
 use Rattle.job.specs.Job.{Job, accepted, read_job}
 use Rattle.job.specs.Inner.Reading.{Fronts}
-use Rattle.job.specs.Laws.Reading.{filled_refused, fronts_long, accepted_by, refused_by_lem, table_refused}
+use Rattle.job.proofs.Laws.Reading.{filled_refused, fronts_long, accepted_by, refused_by_lem, table_refused}
 use borrow.Author.Rules.{rules}
 use Rattle.job.proofs.read_by.Statement.{statement}
 use Rattle.job.proofs.read_by.Tie as tie

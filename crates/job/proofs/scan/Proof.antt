@@ -1,6 +1,6 @@
 -- A text too long is 2; any other is read line by line. Assumes nothing.
 use borrow.Author.Rules.{rules}
-use Rattle.job.specs.Laws.Scanning.{too_long, scanned_refused}
+use Rattle.job.proofs.Laws.Scanning.{too_long, scanned_refused}
 use Rattle.job.proofs.scan.Statement.{statement}
 use Rattle.job.proofs.scan.Tie as tie
 

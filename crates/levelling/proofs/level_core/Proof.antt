@@ -6,11 +6,11 @@ use Prim.Native.Nat.{ℕ}
 use mathlib.Core.Bool.{true}
 use mathlib.Core.Path.{◌≡◌, refl}
 use Rattle.model.specs.Plans.{has_shares}
-use Rattle.model.specs.Laws.Level.{level_share}
-use Rattle.model.specs.Laws.Shares.{share_valid}
+use Rattle.model.proofs.Laws.Level.{level_share}
+use Rattle.model.proofs.Laws.Shares.{share_valid}
 use Rattle.model.specs.declared.Checked.TheVariants.{Valid}
 use Rattle.model.specs.Sound.{HasShares}
-use Rattle.model.specs.Laws.Sound.{has_shares_lem, levelled_length}
+use Rattle.model.proofs.Laws.Sound.{has_shares_lem, levelled_length}
 use Rattle.levelling.specs.Levelling.{levelled_to}
 use Rattle.levelling.specs.Laws.Levelling.{levelled_answer}
 use Rattle.levelling.proofs.level_core.Statement.{statement}

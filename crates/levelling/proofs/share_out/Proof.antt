@@ -6,10 +6,10 @@ use mathlib.Core.Path.{◌≡◌, sym}
 use lib.ListN.{length, take, drop}
 use lib.Seq.{length-take-le}
 use Rattle.model.specs.Levels.{levelled}
-use Rattle.model.specs.Laws.Levelled.{levelled_within, levelled_adds}
+use Rattle.model.proofs.Laws.Levelled.{levelled_within, levelled_adds}
 use Rattle.levelling.specs.Inner.Shared.{SoundShares}
 use Rattle.levelling.specs.Laws.Shared.{shared_out, plan_front}
-use Rattle.model.specs.Laws.Sound.{levelled_is, levelled_length}
+use Rattle.model.proofs.Laws.Sound.{levelled_is, levelled_length}
 use Rattle.levelling.specs.Laws.Additions.{level_known, has_takers}
 use Rattle.levelling.proofs.share_out.Statement.{statement}
 use Rattle.levelling.proofs.share_out.Tie as tie

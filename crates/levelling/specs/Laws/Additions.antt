@@ -4,10 +4,10 @@ use Rattle.std.proofs.Common.{arith}
 use Rattle.model.specs.Shares.{greatest_share}
 use Rattle.model.specs.Levels.{total_at, level, remainder}
 use Rattle.model.specs.Sound.{HasShares}
-use Rattle.model.specs.Laws.Headroom.{roomier_all}
-use Rattle.model.specs.Laws.Level.{level_share}
-use Rattle.model.specs.Laws.Levelled.{remainder_fits}
-use Rattle.model.specs.Laws.Sound.{level_within}
+use Rattle.model.proofs.Laws.Headroom.{roomier_all}
+use Rattle.model.proofs.Laws.Level.{level_share}
+use Rattle.model.proofs.Laws.Levelled.{remainder_fits}
+use Rattle.model.proofs.Laws.Sound.{level_within}
 use Rattle.levelling.specs.Additions.{most_additions, ByHalving, KnownLevel}
 use Rattle.headroom.specs.Inner.Takers.{HasTakers}
 

@@ -4,8 +4,8 @@ use Rattle.std.proofs.Common.{inl, inr, arith}
 use Rattle.model.specs.Shares.{greatest_total}
 use Rattle.model.specs.Levels.{level}
 use Rattle.model.specs.Plans.{has_shares}
-use Rattle.model.specs.Laws.Tests.{clash}
-use Rattle.model.specs.Laws.Turns.{shares_found, found_shares, no_shares_lem}
+use Rattle.model.proofs.Laws.Tests.{clash}
+use Rattle.model.proofs.Laws.Turns.{shares_found, found_shares, no_shares_lem}
 use Rattle.model.specs.declared.Refusal.{Refusal}
 use Rattle.list_checks.specs.Checks.{check_lists}
 use Rattle.levelling.specs.Levelling.{levelled_to, levelling}
@@ -13,7 +13,7 @@ use Rattle.list_checks.specs.declared.Check.{Check}
 use Rattle.list_checks.specs.declared.Check.TheVariants.{Passed, Failed}
 use Rattle.levelling.specs.declared.Levelling.{Levelling}
 use Rattle.levelling.specs.declared.Levelling.TheVariants as level
-use Rattle.list_checks.specs.Laws.Findings.{check_exactly, passed_sound, check_number, check_between}
+use Rattle.list_checks.proofs.Laws.Findings.{check_exactly, passed_sound, check_number, check_between}
 use Rattle.list_checks.specs.Findings.{CheckNumber}
 use Rattle.levelling.specs.Answers.{LevelChecks, LevelFinding}
 

@@ -6,13 +6,13 @@ use Rattle.model.specs.Levels.{level, levelled}
 use Rattle.model.specs.Ways.{evened}
 use Rattle.model.specs.Plans.{has_shares}
 use Rattle.model.specs.Running.{marked_figures}
-use Rattle.model.specs.Laws.Shut.{marked_figures_before}
-use Rattle.model.specs.Laws.Tests.{both_left, both_right}
+use Rattle.model.proofs.Laws.Shut.{marked_figures_before}
+use Rattle.model.proofs.Laws.Tests.{both_left, both_right}
 use Rattle.model.specs.declared.Figures.{Figures}
 use Rattle.list_checks.specs.Checks.{check_lists}
 use Rattle.levelling.specs.Levelling.{levelling, levelled_to, levelled_after}
 use Rattle.levelling.specs.Before.{levelling_before}
-use Rattle.list_checks.specs.Laws.Findings.{check_exactly, passed_sound, passed_marked}
+use Rattle.list_checks.proofs.Laws.Findings.{check_exactly, passed_sound, passed_marked}
 use Rattle.list_checks.specs.declared.Check.{Check}
 use Rattle.list_checks.specs.declared.Check.TheVariants.{Passed, Failed}
 use Rattle.levelling.specs.declared.Levelling.{Levelling}

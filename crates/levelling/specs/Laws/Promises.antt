@@ -3,17 +3,17 @@ use Rattle.std.specs.Prelude.{ℕ, List, ◌++◌, ◌≡◌, length, drop}
 use Rattle.std.proofs.Math.Seq.{take_at}
 use Rattle.std.proofs.Common.{drop_at}
 use Rattle.model.specs.Levels.{remainder, levelled}
-use Rattle.model.specs.Laws.HeadroomFirst.{levelled_first}
-use Rattle.model.specs.Laws.Level.{total_at_least, level_share, level_holds, level_greatest}
-use Rattle.model.specs.Laws.Levelled.{shares_exist, levelled_way, levelled_within, levelled_adds}
-use Rattle.model.specs.Laws.Shut.{marked_least_deviation, marked_least_spread, marked_least_pairs, marked_least_above}
+use Rattle.model.proofs.Laws.HeadroomFirst.{levelled_first}
+use Rattle.model.proofs.Laws.Level.{total_at_least, level_share, level_holds, level_greatest}
+use Rattle.model.proofs.Laws.Levelled.{shares_exist, levelled_way, levelled_within, levelled_adds}
+use Rattle.model.proofs.Laws.Shut.{marked_least_deviation, marked_least_spread, marked_least_pairs, marked_least_above}
 use Rattle.model.specs.declared.Figures.{Figures}
 use Rattle.model.specs.declared.Refusal.{Refusal}
 use Rattle.model.specs.declared.Share.{Share}
 use Rattle.levelling.specs.Levelling.{levelling}
-use Rattle.model.specs.Laws.Sound.{levelled_length}
+use Rattle.model.proofs.Laws.Sound.{levelled_length}
 use Rattle.levelling.specs.declared.Levelling.TheVariants as level
-use Rattle.list_checks.specs.Laws.Findings.{passed_sound, passed_marked}
+use Rattle.list_checks.proofs.Laws.Findings.{passed_sound, passed_marked}
 use Rattle.levelling.specs.Answers.{LevelFinding}
 use Rattle.levelling.specs.Laws.Answers.{level_exactly}
 use Rattle.levelling.specs.Promises.{LevelPromise, plan_left}

@@ -4,10 +4,10 @@ use Rattle.std.proofs.Common.{arith}
 use Rattle.std.proofs.Math.Seq.{take-append_seam}
 use Rattle.model.specs.Shares.{Ranges, Within, sum}
 use Rattle.model.specs.Running.{Marked}
-use Rattle.model.specs.Laws.Lists.{within_length}
+use Rattle.model.proofs.Laws.Lists.{within_length}
 use Rattle.model.specs.Sound.{SoundRanges}
 use Rattle.levelling.specs.Inner.Shared.{SoundShares}
-use Rattle.model.specs.Laws.Sound.{sound}
+use Rattle.model.proofs.Laws.Sound.{sound}
 
 -- each is a range of one value
 own_ranges : {lows highs xs : List ℕ} → Ranges lows highs → Within lows highs xs → Ranges xs xs

@@ -5,7 +5,7 @@ use Rattle.std.proofs.Math.Path.{ap}
 use Rattle.std.proofs.Common.{◌∙◌, add-one, arith, drop_of_length-le, drop-cons}
 use Rattle.model.specs.Running.{runs, running}
 use Rattle.model.specs.Shares.{pick, sum_of}
-use Rattle.model.specs.Laws.Running.{running_run, running_skip, running_nil}
+use Rattle.model.proofs.Laws.Running.{running_run, running_skip, running_nil}
 
 -- the sum of f over the shares before i is passed: with that over the others it is the sum over all
 abbrev pub Summed : (ℕ → ℕ) → List ℕ → ℕ → ℕ → Type 0

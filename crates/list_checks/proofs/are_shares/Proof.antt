@@ -1,6 +1,6 @@
 -- The constructor is asked for both ends, for the high one only where the low is a share. Assumes nothing.
 use borrow.Author.Rules.{rules}
-use Rattle.model.specs.Laws.Shares.{valid_is_share, beyond_no_share}
+use Rattle.model.proofs.Laws.Shares.{valid_is_share, beyond_no_share}
 use Rattle.list_checks.proofs.are_shares.Statement.{statement}
 use Rattle.list_checks.proofs.are_shares.Tie as tie
 

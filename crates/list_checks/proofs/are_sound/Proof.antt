@@ -6,7 +6,7 @@ use mathlib.Core.Path.{refl, sym}
 use Prim.Native.Nat.{◌+◌, ◌-◌, ◌≤◌}
 use lib.ListN.{length}
 use Rattle.list_checks.specs.Inner.Units.{unit_sound}
-use Rattle.list_checks.specs.Laws.First.{NoneBefore, first_here, first_after, first_nowhere}
+use Rattle.list_checks.proofs.Laws.First.{NoneBefore, first_here, first_after, first_nowhere}
 use Rattle.list_checks.proofs.are_sound.Statement.{statement}
 use Rattle.list_checks.proofs.are_sound.Tie as tie
 

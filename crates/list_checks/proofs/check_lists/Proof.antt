@@ -6,8 +6,8 @@ use mathlib.Core.Path.{◌≡◌, sym, ◌∙◌}
 use lib.Dec.{ltb}
 use lib.ListN.{length}
 use Rattle.list_checks.specs.Checks.{first_beyond, first_crossed, sized, check_lists}
-use Rattle.list_checks.specs.Laws.Findings.{sized_of}
-use Rattle.list_checks.specs.Laws.Units.{sound_units}
+use Rattle.list_checks.proofs.Laws.Findings.{sized_of}
+use Rattle.list_checks.proofs.Laws.Units.{sound_units}
 use Rattle.list_checks.proofs.check_lists.Statement.{statement}
 use Rattle.list_checks.proofs.check_lists.Tie as tie
 

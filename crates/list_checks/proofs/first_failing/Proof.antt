@@ -6,7 +6,7 @@ use mathlib.Core.Path.{refl}
 use Prim.Native.Nat.{◌-◌, ◌≤◌}
 use lib.ListN.{length}
 use Rattle.list_checks.specs.Inner.Units.{unit_clear}
-use Rattle.list_checks.specs.Laws.First.{NoneBefore, first_here, first_after, first_nowhere}
+use Rattle.list_checks.proofs.Laws.First.{NoneBefore, first_here, first_after, first_nowhere}
 use Rattle.list_checks.proofs.first_failing.Statement.{statement}
 use Rattle.list_checks.proofs.first_failing.Tie as tie
 

@@ -2,8 +2,8 @@
 use borrow.Author.Rules.{rules}
 use borrow.Author.Tests.{lt-leb}
 use native.Mathlib.Omega.{arith}
-use Rattle.model.specs.Laws.Shares.{valid_is_share, beyond_no_share}
-use Rattle.list_checks.specs.Laws.Units.{run_sound, run_unsound, shut_sound, mark_unsound}
+use Rattle.model.proofs.Laws.Shares.{valid_is_share, beyond_no_share}
+use Rattle.list_checks.proofs.Laws.Units.{run_sound, run_unsound, shut_sound, mark_unsound}
 use Rattle.list_checks.proofs.is_sound.Statement.{statement}
 use Rattle.list_checks.proofs.is_sound.Tie as tie
 

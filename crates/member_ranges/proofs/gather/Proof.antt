@@ -6,7 +6,7 @@ use lib.ListN.{length}
 use mathlib.Core.Path.{sym}
 use Rattle.member_ranges.specs.Tables.{gather}
 use Rattle.member_ranges.specs.Laws.Members.{gather_length, gather_at}
-use Rattle.model.specs.Laws.Writing.{Filled, filled_none, filled_more, filled_all}
+use Rattle.model.proofs.Laws.Writing.{Filled, filled_none, filled_more, filled_all}
 use Rattle.member_ranges.proofs.gather.Statement.{statement}
 use Rattle.member_ranges.proofs.gather.Tie as tie
 

@@ -4,8 +4,8 @@ use Rattle.std.proofs.Common.{true≢false, sym, ap, ◌∙◌, add-one, arith, 
 use Rattle.std.proofs.lemmas.Bool.{false≢true}
 use Rattle.std.proofs.Math.Nat.{suc_inj}
 use Rattle.model.specs.Known.{same_list}
-use Rattle.model.specs.Laws.Lists.{sum_le}
-use Rattle.model.specs.Laws.Tests.{both_left, both_right}
+use Rattle.model.proofs.Laws.Lists.{sum_le}
+use Rattle.model.proofs.Laws.Tests.{both_left, both_right}
 use Rattle.model.specs.Shares.{Ranges, sum}
 use Rattle.member_ranges.specs.Tables.{Table, Valid, same_table, widths, width, Inside}
 

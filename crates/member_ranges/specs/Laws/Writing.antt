@@ -6,7 +6,7 @@ use Rattle.std.proofs.Math.Nat.{suc_inj}
 use Rattle.std.proofs.Math.Numerals.{add-one}
 use Rattle.std.proofs.Math.ListN.{length-set}
 use Rattle.std.proofs.Math.Seq.{drop-cons, take-suc-set}
-use Rattle.model.specs.Laws.Running.{running_run, running_skip}
+use Rattle.model.proofs.Laws.Running.{running_run, running_skip}
 use Rattle.model.specs.Running.{running}
 use Rattle.member_ranges.specs.Inner.Members.{running_members}
 use Rattle.member_ranges.specs.Tables.{gather, scatter}

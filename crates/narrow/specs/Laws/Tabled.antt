@@ -3,8 +3,8 @@ use Rattle.std.specs.Prelude.{ℕ, Bool, true, false, List, ◌≡◌, refl}
 use Rattle.std.proofs.Common.{arith}
 use Rattle.breakpoints.specs.Inner.Tables as probed
 use Rattle.model.specs.Sound.{HasShares}
-use Rattle.model.specs.Laws.Sound.{highs_small}
-use Rattle.model.specs.Laws.Tests.{clash}
+use Rattle.model.proofs.Laws.Sound.{highs_small}
+use Rattle.model.proofs.Laws.Tests.{clash}
 
 -- a group with shares of the total has a small total
 pub probe_sound : {lows highs : List ℕ} {total : ℕ} → HasShares lows highs total → probed.SoundWithTotal lows highs total

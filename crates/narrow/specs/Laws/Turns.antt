@@ -4,8 +4,8 @@ use Rattle.std.proofs.Common.{sym, ◌∙◌}
 use Rattle.model.specs.Plans.{turn_of}
 use Rattle.model.specs.Shares.{pick}
 use Rattle.model.specs.Sound.{HasShares}
-use Rattle.model.specs.Laws.Sound.{shares_had}
-use Rattle.model.specs.Laws.Turns.{found_turn}
+use Rattle.model.proofs.Laws.Sound.{shares_had}
+use Rattle.model.proofs.Laws.Turns.{found_turn}
 use Rattle.model.specs.declared.Limits.{Limits}
 use Rattle.model.specs.declared.Turn.{Turn}
 use Rattle.model.specs.declared.Turn.TheVariants.{NoPlan}

@@ -9,8 +9,8 @@ use Rattle.model.specs.Figures.{met, apart, figures_of, deviation, spread}
 use Rattle.model.specs.Levels.{clamp, clamped, growth}
 use Rattle.model.specs.Ways.{topped, evened}
 use Rattle.model.specs.Plans.{has_plan}
-use Rattle.model.specs.Laws.Pairs.{pairs_same}
-use Rattle.model.specs.Laws.Level.{total_at_mono, total_at_greatest}
+use Rattle.model.proofs.Laws.Pairs.{pairs_same}
+use Rattle.model.proofs.Laws.Level.{total_at_mono, total_at_greatest}
 use Rattle.model.specs.declared.Limits.{Limits}
 use Rattle.breakpoints.specs.declared.rows.Row.{Row}
 use Rattle.probe.specs.declared.pinned.Reach.{Reach}

@@ -9,14 +9,14 @@ use Rattle.model.specs.Shares.{Ranges, Within, greatest_share, sum, sum_of}
 use Rattle.model.specs.Figures.{deviation, spread, pairs, figures_of}
 use Rattle.model.specs.Levels.{clamp, clamped, total_at, growth}
 use Rattle.model.specs.Ways.{topped, evened}
-use Rattle.model.specs.Laws.Least.{least}
-use Rattle.model.specs.Laws.Lists.{ranges_at, sum_sum_of}
-use Rattle.model.specs.Laws.Levelled.{topped_between, topped_within, topped_near, topped_adds, near_even, evened_within, evened_adds, shares_exist}
-use Rattle.model.specs.Laws.Pairs.{pairs_schur}
-use Rattle.model.specs.Laws.Plans.{evened_least}
-use Rattle.model.specs.Laws.Pinned.{pinned_ranges}
+use Rattle.model.proofs.Laws.Least.{least}
+use Rattle.model.proofs.Laws.Lists.{ranges_at, sum_sum_of}
+use Rattle.model.proofs.Laws.Levelled.{topped_between, topped_within, topped_near, topped_adds, near_even, evened_within, evened_adds, shares_exist}
+use Rattle.model.proofs.Laws.Pairs.{pairs_schur}
+use Rattle.model.proofs.Laws.Plans.{evened_least}
+use Rattle.model.proofs.Laws.Pinned.{pinned_ranges}
 use Rattle.model.specs.Transfers.{SchurConvex}
-use Rattle.model.specs.Laws.Transfer.{deviation_schur, spread_schur}
+use Rattle.model.proofs.Laws.Transfer.{deviation_schur, spread_schur}
 use Rattle.breakpoints.specs.Laws.Sums.{between_sum, pinned_sum}
 use Rattle.breakpoints.specs.Inner.Spans.{Span}
 use Rattle.probe.specs.Inner.Pinned.{Pin, Reached}
@@ -128,17 +128,17 @@ module _ (lows highs : List ℕ) (total m w a b : ℕ) (rises : m ≤ w) (more :
   reached_between c q r share moving left under =
       let even : (f : ℕ → ℕ) (x : ℕ) → m ≤ x → x ≤ w → sum_of f (clamped lows highs x) + c * f m ≡ sum_of f (clamped lows highs m) + c * f x =
       (λ f x from up_to. omega (arith, rw (← moving) at (sums f x from up_to))) in
-      let total_at : (k : ℕ) → m + k ≤ w → total_at lows highs (m + k) ≡ total_at lows highs m + c * k =
+      let total_there : (k : ℕ) → m + k ≤ w → total_at lows highs (m + k) ≡ total_at lows highs m + c * k =
       (λ k up_to. omega (arith, rw (← moving) at (total_even (m + k) (omega arith) up_to))) in
       let (d, e) = le_dest rises in
       let inside : q ≤ d = by_contra _ _ (λ past.
-      let less : suc d ≤ q = omega arith in omega (arith, rw e at (total_at d (omega arith)), mul-le-mul_left c less)) in
-      let here : total_at lows highs (m + q) ≡ total_at lows highs m + c * q = total_at q (omega arith) in
+      let less : suc d ≤ q = omega arith in omega (arith, rw e at (total_there d (omega arith)), mul-le-mul_left c less)) in
+      let here : total_at lows highs (m + q) ≡ total_at lows highs m + c * q = total_there q (omega arith) in
       let suc_out : m + suc q ≡ suc (m + q) = omega arith in
       let spare : 0 < r → r < total_at lows highs (suc (m + q)) - total_at lows highs (m + q) =
       (λ some. elim (dec_lt q d) [
-        | yes less ↦ omega (arith, rw suc_out at (total_at (suc q) (omega arith)), here)
-        | no none ↦ let same : q ≡ d = omega arith in absurd (omega (arith, rw e at (total_at d (omega arith)), ap (λ (t : ℕ). c * t) same))
+        | yes less ↦ omega (arith, rw suc_out at (total_there (suc q) (omega arith)), here)
+        | no none ↦ let same : q ≡ d = omega arith in absurd (omega (arith, rw e at (total_there d (omega arith)), ap (λ (t : ℕ). c * t) same))
       ]) in
       record {
         share = omega arith;

@@ -5,7 +5,7 @@ use Rattle.model.specs.Shares.{Ranges, sum_of, most_units}
 use Rattle.model.specs.Figures.{apart, pairs}
 use Rattle.model.specs.Levels.{clamp, clamped}
 use Rattle.model.specs.Ways.{topped}
-use Rattle.model.specs.Laws.Levelled.{topped_between, topped_adds}
+use Rattle.model.proofs.Laws.Levelled.{topped_between, topped_adds}
 use Rattle.breakpoints.specs.declared.distances.Distances.{Distances}
 use Rattle.breakpoints.specs.Inner.Distances.{most_pairs, LowsPassed, DistancesAt}
 use Rattle.probe.specs.Inner.Pairs.{shares_above, WithOver, OverGiven}

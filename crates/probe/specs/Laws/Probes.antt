@@ -4,7 +4,7 @@ use Rattle.std.proofs.Math.Decide.{dec_lt, ℕ_discrete}
 use Rattle.std.proofs.Common.{arith}
 use Rattle.model.specs.Shares.{most_units}
 use Rattle.model.specs.Levels.{clamp, total_at, growth}
-use Rattle.model.specs.Laws.Lists.{sum_sum_of}
+use Rattle.model.proofs.Laws.Lists.{sum_sum_of}
 use Rattle.breakpoints.specs.declared.rows.Row.{Row}
 use Rattle.probe.specs.declared.pinned.Reach.{Reach}
 use Rattle.breakpoints.specs.Inner.Rows.{row_at, last_row}

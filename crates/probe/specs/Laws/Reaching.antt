@@ -3,7 +3,7 @@ use Rattle.std.specs.Prelude.{ℕ, ◌*◌, ◌≤◌, ◌<◌, true, false, Lis
 use native.Mathlib.Omega.{arith, by_contra}
 use Rattle.model.specs.Shares.{greatest_share, sum}
 use Rattle.model.specs.Plans.{taken}
-use Rattle.model.specs.Laws.Tests.{clash}
+use Rattle.model.proofs.Laws.Tests.{clash}
 use Rattle.model.specs.declared.Limits.{Limits}
 use Rattle.probe.specs.declared.terms.Terms.{Terms}
 use Rattle.breakpoints.specs.Inner.Distances.{most_pairs, Paired}

@@ -7,10 +7,10 @@ use Rattle.model.specs.Shares.{Ranges, greatest_share, sum, sum_of, most_units}
 use Rattle.model.specs.Figures.{deviation}
 use Rattle.model.specs.Levels.{clamp, clamped}
 use Rattle.model.specs.Ways.{topped}
-use Rattle.model.specs.Laws.Deviation.{deviation_twice, deviation_twice_below}
-use Rattle.model.specs.Laws.Levelled.{topped_within}
-use Rattle.model.specs.Laws.Lists.{ranges_at, within_length}
-use Rattle.model.specs.Laws.Spread.{sum_of_bound}
+use Rattle.model.proofs.Laws.Deviation.{deviation_twice, deviation_twice_below}
+use Rattle.model.proofs.Laws.Levelled.{topped_within}
+use Rattle.model.proofs.Laws.Lists.{ranges_at, within_length}
+use Rattle.model.proofs.Laws.Spread.{sum_of_bound}
 use Rattle.probe.specs.declared.pinned.Reach.{Reach}
 use Rattle.probe.specs.declared.pinned.Trial.{Trial}
 use Rattle.probe.specs.declared.terms.Terms.{Terms}

@@ -11,12 +11,12 @@ use Rattle.model.specs.Ways.{topped, evened}
 use Rattle.model.specs.Plans.{has_plan}
 use Rattle.model.specs.declared.Figures.{Figures}
 use Rattle.model.specs.declared.Limits.{Limits}
-use Rattle.model.specs.Laws.Level.{total_at_least, total_at_greatest}
-use Rattle.model.specs.Laws.Levelled.{topped_within}
-use Rattle.model.specs.Laws.Lists.{within_at, within_length, ranges_at}
-use Rattle.model.specs.Laws.Pairs.{pairs_small}
-use Rattle.model.specs.Laws.Spread.{cauchy_schwarz, sum_of_bound}
-use Rattle.model.specs.Laws.Tests.{right_fails}
+use Rattle.model.proofs.Laws.Level.{total_at_least, total_at_greatest}
+use Rattle.model.proofs.Laws.Levelled.{topped_within}
+use Rattle.model.proofs.Laws.Lists.{within_at, within_length, ranges_at}
+use Rattle.model.proofs.Laws.Pairs.{pairs_small}
+use Rattle.model.proofs.Laws.Spread.{cauchy_schwarz, sum_of_bound}
+use Rattle.model.proofs.Laws.Tests.{right_fails}
 use Rattle.probe.specs.declared.pairs.LevelSpot.{LevelSpot}
 use Rattle.probe.specs.declared.probing.Pinned.{Pinned}
 use Rattle.breakpoints.specs.declared.rows.Row.{Row}

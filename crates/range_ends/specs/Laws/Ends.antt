@@ -6,14 +6,14 @@ use Rattle.model.specs.Figures.{met}
 use Rattle.model.specs.Levels.{clamp, growth}
 use Rattle.model.specs.Ways.{HandsOut, topped}
 use Rattle.model.specs.Plans.{Plan, taken, narrowed_low, narrowed_high}
-use Rattle.model.specs.Laws.Ends.{low_unique, high_unique}
-use Rattle.model.specs.Laws.Levelled.{topped_between, topped_adds}
-use Rattle.model.specs.Laws.Lists.{ranges_at, within_at, within_length}
-use Rattle.model.specs.Laws.Pinned.{plan_taken}
-use Rattle.model.specs.Laws.Plans.{found_plan}
-use Rattle.model.specs.Laws.Tests.{clash}
-use Rattle.model.specs.Laws.Given.{way_copy, way_none}
-use Rattle.model.specs.Laws.Ways.{way_within, ways_figures}
+use Rattle.model.proofs.Laws.Ends.{low_unique, high_unique}
+use Rattle.model.proofs.Laws.Levelled.{topped_between, topped_adds}
+use Rattle.model.proofs.Laws.Lists.{ranges_at, within_at, within_length}
+use Rattle.model.proofs.Laws.Pinned.{plan_taken}
+use Rattle.model.proofs.Laws.Plans.{found_plan}
+use Rattle.model.proofs.Laws.Tests.{clash}
+use Rattle.model.proofs.Laws.Given.{way_copy, way_none}
+use Rattle.model.proofs.Laws.Ways.{way_within, ways_figures}
 use Rattle.model.specs.declared.Limits.{Limits}
 use Rattle.probe.specs.Inner.Pinned.{Reached}
 use Rattle.probe.specs.Laws.Pinned.{reached_figures}

@@ -5,8 +5,8 @@ use Rattle.std.proofs.Math.Decide.{dec_lt}
 use Rattle.std.proofs.Math.Nat.{le_dest}
 use Rattle.model.specs.Shares.{Ranges, greatest_share}
 use Rattle.model.specs.Plans.{taken}
-use Rattle.model.specs.Laws.Lists.{ranges_at}
-use Rattle.model.specs.Laws.Tests.{clash, refuted}
+use Rattle.model.proofs.Laws.Lists.{ranges_at}
+use Rattle.model.proofs.Laws.Tests.{clash, refuted}
 use Rattle.model.specs.declared.Limits.{Limits}
 use Rattle.breakpoints.specs.Inner.Rows.{row_at, last_row}
 use Rattle.breakpoints.specs.Inner.Tables.{Breakpoints}

@@ -2,7 +2,7 @@
 use Rattle.std.specs.Prelude.{ℕ, ◌<◌, Bool, true, false, List, ◌≡◌, length, get_or}
 use Rattle.model.specs.Shares.{pick}
 use Rattle.model.specs.Plans.{taken, narrowed_low, narrowed_high}
-use Rattle.model.specs.Laws.Narrowing.{narrowed_lows_length, narrowed_highs_length, narrowed_lows_at, narrowed_highs_at}
+use Rattle.model.proofs.Laws.Narrowing.{narrowed_lows_length, narrowed_highs_length, narrowed_lows_at, narrowed_highs_at}
 use Rattle.model.specs.declared.Limits.{Limits}
 use Rattle.range_ends.specs.Inner.Edges.{Planned, Approach, Reaches}
 use Rattle.range_ends.specs.Inner.Members.{narrowed_ends}

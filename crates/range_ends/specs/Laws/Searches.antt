@@ -4,7 +4,7 @@ use Rattle.std.proofs.Common.{sym, ap, ◌∙◌, arith}
 use Rattle.std.proofs.Math.Decide.{dec_lt}
 use Rattle.model.specs.Shares.{greatest_share}
 use Rattle.model.specs.Plans.{taken}
-use Rattle.model.specs.Laws.Tests.{clash}
+use Rattle.model.proofs.Laws.Tests.{clash}
 use Rattle.model.specs.declared.Limits.{Limits}
 use Rattle.probe.specs.Inner.Probes.{MadeUp}
 use Rattle.probe.specs.declared.terms.Terms.{Terms}

@@ -4,10 +4,10 @@ use Rattle.std.proofs.Common.{sym, ◌∙◌, arith, length-set, get_or-set_same
 use Rattle.std.proofs.Math.Decide.{ℕ_discrete}
 use Rattle.model.specs.Shares.{Ranges, greatest_share}
 use Rattle.model.specs.Plans.{has_plan, taken}
-use Rattle.model.specs.Laws.Ends as ends
-use Rattle.model.specs.Laws.Lists.{ranges_at, ranges_of, ranges_length}
-use Rattle.model.specs.Laws.Pinned.{taken_plan}
-use Rattle.model.specs.Laws.Plans.{plan_found}
+use Rattle.model.proofs.Laws.Ends as ends
+use Rattle.model.proofs.Laws.Lists.{ranges_at, ranges_of, ranges_length}
+use Rattle.model.proofs.Laws.Pinned.{taken_plan}
+use Rattle.model.proofs.Laws.Plans.{plan_found}
 use Rattle.model.specs.declared.Limits.{Limits}
 
 module _ {lows highs : List ℕ} (ranges : Ranges lows highs) (total : ℕ) (limits : Limits) (i : ℕ) (below : i < length lows) where

@@ -3,10 +3,10 @@ use Rattle.std.specs.Prelude.{ℕ, ◌≤◌, List, ◌++◌, ◌≡◌, length,
 use Rattle.std.proofs.Common.{ap, ◌∙◌, arith}
 use Rattle.narrow.specs.Inner.Turns.{Turned}
 use Rattle.model.specs.Sound as one
-use Rattle.model.specs.Laws.Sound as laws
+use Rattle.model.proofs.Laws.Sound as laws
 use Rattle.groups.specs.Memberships.{size}
 use Rattle.model.specs.Groups.{Group}
-use Rattle.model.specs.Laws.Lists.{ranges_length}
+use Rattle.model.proofs.Laws.Lists.{ranges_length}
 use Rattle.model.specs.Shares.{most_units}
 use Rattle.model.specs.declared.Turn.{Turn}
 use Rattle.model.specs.declared.Turn.TheVariants.{Narrowed, NoPlan}
@@ -16,9 +16,9 @@ use Rattle.works.specs.Resting.{running_group}
 use Rattle.works.specs.Settling.{revised_by, narrowed, revise}
 use Rattle.member_ranges.specs.Tables.{Table, table_of, units, gather, scatter, lows_of, highs_of}
 use Rattle.member_ranges.specs.Laws.Members.{gather_length}
-use Rattle.works.specs.Laws.Shut.{running_members_lem}
-use Rattle.works.specs.Laws.Sizes.{size_few}
-use Rattle.works.specs.Laws.Turns.{gathered}
+use Rattle.works.proofs.Laws.Shut.{running_members_lem}
+use Rattle.works.proofs.Laws.Sizes.{size_few}
+use Rattle.works.proofs.Laws.Turns.{gathered}
 use Rattle.member_ranges.specs.Laws.Writing.{scatter_front}
 
 module _ {table : Table} {group : Group} (turning : Turning table group) where

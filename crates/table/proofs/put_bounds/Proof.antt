@@ -43,7 +43,7 @@ use denote.Exit.{yes}
 use Rattle.table.specs.declared.Range.{Range}
 use Rattle.table.specs.declared.Bounds.{Bounds}
 use Rattle.table.specs.Inner.Tables.{over, ranges}
-use Rattle.table.specs.Laws.Lists.{over_length, over_ranges}
+use Rattle.table.proofs.Laws.Lists.{over_length, over_ranges}
 use Rattle.job.proofs.Closing.{proved}
 use Rattle.job.proofs.Releasing.{releases}
 use Rattle.table.proofs.Walks.{R, word, arr, none, vals, counts, typed, array_out, array_free, bounds_val, bounds_are, lows_are, highs_are, number_out, number_back}

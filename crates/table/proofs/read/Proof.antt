@@ -42,8 +42,8 @@ use Rattle.table.specs.declared.Range.{Range}
 use Rattle.table.specs.declared.ReadBounds.{ReadBounds}
 use Rattle.table.specs.Tables.{lows_in, highs_in}
 use Rattle.table.specs.Inner.Tables.{ranges, bounds_of, after_reading}
-use Rattle.table.specs.Laws.Lists.{over_length}
-use Rattle.table.specs.Laws.Fronts.{put_back, read_table}
+use Rattle.table.proofs.Laws.Lists.{over_length}
+use Rattle.table.proofs.Laws.Fronts.{put_back, read_table_lem}
 use Rattle.job.specs.Reading.{ReadInto}
 use Rattle.job.proofs.Closing.{proved}
 use Rattle.job.proofs.Lending.{slice_at}
@@ -122,7 +122,7 @@ module _ {M : Type 1} {𝓤 : Ura M} (𝓛 : Logic 𝓤) (mem : Memory → SProp
   exits r e js is =
       qed 𝓛 ((‵ (flft κ₀ q₀) ⊛ ‵ ftrue) ∷ ‵ (flft κ q) ∷ ‵ Text ∷ ‵ (finally T.the_row γ (left r)) ∷ []) ∵
       suffices ! _ (ends_at 𝓛 read.ended stayed (read.clauses 𝓛 mem run) (((κ₀, (κ, tt)), (q₀, (q, tt)), tt, a, at), tt) (answered r) r.answer (tt, (left r, tt)) (tt, (over_length r.bounds.count (ranges r.bounds.lows r.bounds.highs) ys, tt))) $
-      says ! (subst (λ (z : ReadBounds). ReadInto bs (lows_in ys) (highs_in ys) (lows_in (left z)) (highs_in (left z)) z.answer) (sym e) (read_table bs ys (ap (λ (z : ReadBounds). length z.bounds.lows) (sym e) ∙ lows_length r.bounds js) (ap (λ (z : ReadBounds). length z.bounds.highs) (sym e) ∙ highs_length r.bounds js))) $
+      says ! (subst (λ (z : ReadBounds). ReadInto bs (lows_in ys) (highs_in ys) (lows_in (left z)) (highs_in (left z)) z.answer) (sym e) (read_table_lem bs ys (ap (λ (z : ReadBounds). length z.bounds.lows) (sym e) ∙ lows_length r.bounds js) (ap (λ (z : ReadBounds). length z.bounds.highs) (sym e) ∙ highs_length r.bounds js))) $
       split ! $ move ! (2 ∷ 1 ∷ []) $ join ! $ move ! (1 ∷ 0 ∷ []) $ join ! $ frame ! $
       nothing ! $ move ! (2 ∷ 0 ∷ []) $ fjoin ! $ move ! (1 ∷ 0 ∷ []) $ fjoin ! $ frame ! $ owned ! S.the_row (Is S.the_row) (EL.makes S.the_type S'.the_plain 𝓛) r.answer _ is $ done !
 

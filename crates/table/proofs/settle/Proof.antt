@@ -42,8 +42,8 @@ use Rattle.table.specs.declared.Range.{Range}
 use Rattle.table.specs.declared.SettledBounds.{SettledBounds}
 use Rattle.table.specs.Tables.{lows_in, highs_in}
 use Rattle.table.specs.Inner.Tables.{ranges, bounds_of, after_settling}
-use Rattle.table.specs.Laws.Lists.{over_length}
-use Rattle.table.specs.Laws.Fronts.{put_back, settled_table_lem}
+use Rattle.table.proofs.Laws.Lists.{over_length}
+use Rattle.table.proofs.Laws.Fronts.{put_back, settled_table_lem}
 use Rattle.works.specs.Calls.{settlement}
 use Rattle.job.proofs.Closing.{proved}
 use Rattle.job.proofs.Lending.{slice_at}

@@ -51,7 +51,7 @@ use Rattle.table.specs.declared.Range.{Range}
 use Rattle.table.specs.declared.Bounds.{Bounds}
 use Rattle.table.specs.Inner.Tables.{over, zeros}
 use Rattle.table.specs.Tables.{lows_in, highs_in}
-use Rattle.table.specs.Laws.Lists.{over_length, over_map, zeros_are, zeros_length}
+use Rattle.table.proofs.Laws.Lists.{over_length, over_map, zeros_are, zeros_length}
 use Rattle.job.proofs.Closing.{proved}
 use Rattle.job.proofs.Releasing.{releases}
 use Rattle.table.proofs.Walks.{R, word, arr, none, vals, counts, typed, zeroes, array_out, array_in, bounds_val, bounds_are, number_out, number_put}

@@ -38,7 +38,7 @@ use denote.Triple.Walked.{says, Stays, stay_dropped, gave_slice, walk_of, AllGo,
 use denote.Exit.{yes}
 use Rattle.table.specs.declared.Range.{Range}
 use Rattle.table.specs.Inner.Tables.{bounds_of, after_writing}
-use Rattle.table.specs.Laws.Fronts.{written_table}
+use Rattle.table.proofs.Laws.Fronts.{written_table}
 use Rattle.writer.specs.Calls.{written_text}
 use Rattle.writer.specs.declared.Writing.{Writing}
 use Rattle.job.proofs.Closing.{proved}

@@ -5,7 +5,7 @@ use Rattle.std.proofs.Math.Nat.{div-lt_self}
 use Rattle.std.proofs.Math.Decide.{dec_lt}
 use Rattle.std.proofs.lemmas.Bool.{eqb-false}
 use Rattle.model.specs.Shares.{pick}
-use Rattle.model.specs.Laws.Tests.{both_left, both_right}
+use Rattle.model.proofs.Laws.Tests.{both_left, both_right}
 use Rattle.text.specs.Kinds.{kind_of}
 use Rattle.text.specs.Parsed.{Parsed, parsed, failed, mapped, word}
 use Rattle.text.specs.Laws.Parsed.{then_parsed, mapped_parsed, word_parsed}

@@ -6,7 +6,7 @@ use Rattle.std.proofs.Common.{inl, inr, ⊎_elim, sym, ap, ◌∙◌, arith, eqb
 use Rattle.std.proofs.Math.Path.{refl}
 use Rattle.std.proofs.Math.Decide.{ℕ_discrete}
 use Rattle.std.proofs.lemmas.Bool.{eqb-false}
-use Rattle.model.specs.Laws.Tests.{both, both_left, both_right, clash, refuted, upheld, neither, either_right}
+use Rattle.model.proofs.Laws.Tests.{both, both_left, both_right, clash, refuted, upheld, neither, either_right}
 use Rattle.model.specs.Refusals.{unless}
 use Rattle.model.specs.Shares.{pick, sum_of}
 use Rattle.text.specs.Kinds.{kind_of, is_opening, is_closing, is_letter}
@@ -20,6 +20,7 @@ use Rattle.text.specs.Sentences.{Unended, Unpaired, letters, NamedLine, Ails}
 -- no byte 10 found, none there
 unended_of : (line : List ℕ) → ended line ≡ false → Unended line
 unfolding ended
+unended_of [] h m = elim m [ ]
 unended_of (b ∷ s) h (Memᴰ.head e) = clash (eq-eqb b 10 (sym e)) (neither (eqb b 10) (ended s) h).0
 unended_of (b ∷ s) h (Memᴰ.tail m) = unended_of s (neither (eqb b 10) (ended s) h).1 m
 

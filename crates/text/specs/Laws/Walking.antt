@@ -1,7 +1,7 @@
 -- Laws for the walk over a line. Assumes nothing.
 use Rattle.std.specs.Prelude.{ℕ, ◌≤◌, Bool, true, false, not, ◌&&◌, ◌||◌, List, [], ◌∷◌, ◌≡◌, refl, eqb}
 use Rattle.std.proofs.Common.{sym, ap, ◌∙◌, arith, eqb-true}
-use Rattle.model.specs.Laws.Tests.{neither}
+use Rattle.model.proofs.Laws.Tests.{neither}
 use Rattle.model.specs.Shares.{pick}
 use Rattle.text.specs.Kinds.{kind_of, is_opening, is_closing}
 use Rattle.text.specs.Parsed.{parsed, failed, word}

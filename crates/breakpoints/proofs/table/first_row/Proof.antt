@@ -6,7 +6,7 @@ use mathlib.Core.Path.{refl}
 use Prim.Native.Nat.{ℕ, ◌+◌, ◌-◌, ◌*◌, ◌≤◌}
 use lib.ListN.{length, get_or}
 use Rattle.model.specs.Shares.{greatest_share, sum_of}
-use Rattle.model.specs.Laws.Lists.{ranges_at}
+use Rattle.model.proofs.Laws.Lists.{ranges_at}
 use Rattle.breakpoints.specs.Laws.Sums.{Added, added_none, added_one, added_all, clamped_least}
 use Rattle.breakpoints.specs.Laws.Tables.{Small, small_itself, small_square, clamped_small}
 use Rattle.breakpoints.specs.Inner.Tables.{greatest_part, itself, square}

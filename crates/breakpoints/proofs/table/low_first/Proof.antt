@@ -4,7 +4,7 @@ use borrow.Author.Tests.{leb-true, leb-false}
 use native.Mathlib.Nat.{le_of_lt}
 use native.Mathlib.Omega.{arith}
 use mathlib.Core.Path.{refl}
-use Rattle.model.specs.Laws.Tests.{clash}
+use Rattle.model.proofs.Laws.Tests.{clash}
 use Rattle.breakpoints.proofs.table.low_first.Statement.{statement}
 use Rattle.breakpoints.proofs.table.low_first.Tie as tie
 

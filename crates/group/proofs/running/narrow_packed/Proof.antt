@@ -6,8 +6,8 @@ use mathlib.Core.List.{List}
 use mathlib.Core.Path.{◌≡◌, sym, ap, ◌∙◌}
 use lib.ListN.{length, take}
 use Rattle.model.specs.Running.{running}
-use Rattle.model.specs.Laws.Running.{marked_length, running_length, running_few}
-use Rattle.model.specs.Laws.Sound.{running_sound}
+use Rattle.model.proofs.Laws.Running.{marked_length, running_length, running_few}
+use Rattle.model.proofs.Laws.Sound.{running_sound}
 use Rattle.group.specs.Laws.Turns.{turn_restored}
 use Rattle.group.proofs.running.narrow_packed.Statement.{statement}
 use Rattle.group.proofs.running.narrow_packed.Tie as tie

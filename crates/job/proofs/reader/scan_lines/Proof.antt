@@ -36,7 +36,7 @@ use denote.Triple.Walked.{needs, AllGo, Goes-none_slice, Goes-slice, Walks, walk
 use denote.Exit.{yes}
 use Rattle.groups.specs.Inner.Flat.{most_flat}
 use Rattle.form.specs.Form.{most_bytes}
-use Rattle.job.specs.Laws.Scanning.{start}
+use Rattle.job.proofs.Laws.Scanning.{start}
 use Rattle.job.specs.declared.steps.Progress.{Progress}
 use Rattle.model.specs.Shares.{most_units}
 use Rattle.job.proofs.Closing.{proved}

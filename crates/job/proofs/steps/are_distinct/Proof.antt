@@ -1,6 +1,6 @@
 -- At first no number is marked. Assumes nothing.
 use mathlib.Core.Path.{◌∙◌}
-use Rattle.job.specs.Laws.Distinct.{fresh_is_distinct}
+use Rattle.job.proofs.Laws.Distinct.{fresh_is_distinct}
 use borrow.Author.Rules.{rules}
 use Rattle.job.proofs.steps.are_distinct.Statement.{statement}
 use Rattle.job.proofs.steps.are_distinct.Tie as tie

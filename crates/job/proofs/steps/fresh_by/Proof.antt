@@ -5,7 +5,7 @@ use mathlib.Core.Path.{◌≡◌, refl, sym, ◌∙◌}
 use borrow.Author.Tests.{eq-eqb, ne_eqb}
 use lib.ListN.{length, get_or, drop, length-set, drop_of_length-le}
 use Rattle.job.specs.Inner.Distinct.{fresh_by}
-use Rattle.job.specs.Laws.Distinct.{below_at, fresh_next, fresh_end}
+use Rattle.job.proofs.Laws.Distinct.{below_at, fresh_next, fresh_end}
 use native.Mathlib.Omega.{arith}
 use borrow.Author.Rules.{rules}
 use Rattle.job.proofs.steps.fresh_by.Statement.{statement}

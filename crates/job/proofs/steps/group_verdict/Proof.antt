@@ -8,8 +8,8 @@ use native.Mathlib.Omega.{arith}
 use borrow.Author.Rules.{rules}
 use Rattle.job.specs.Job.{distinct}
 use Rattle.job.specs.Inner.Placed.{head_number, group_number}
-use Rattle.model.specs.Laws.Refusals.{passes, fails}
-use Rattle.job.specs.Laws.Verdicts.{first_some, first_none}
+use Rattle.model.proofs.Laws.Refusals.{passes, fails}
+use Rattle.job.proofs.Laws.Verdicts.{first_some, first_none}
 use Rattle.job.proofs.steps.group_verdict.Statement.{statement}
 use Rattle.job.proofs.steps.group_verdict.Tie as tie
 

@@ -6,7 +6,7 @@ use mathlib.Core.Path.{◌≡◌, refl, sym, ◌∙◌}
 use lib.Dec.{leb}
 use Rattle.model.specs.Figures.{greatest_deviation, greatest_spread, greatest_pairs, limit_within}
 use Rattle.model.specs.Shares.{greatest_total}
-use Rattle.model.specs.Laws.Refusals.{passes, fails}
+use Rattle.model.proofs.Laws.Refusals.{passes, fails}
 use Rattle.model.specs.Refusals.{unless}
 use Rattle.job.specs.Job.{most_memberships, head_verdict}
 use native.Mathlib.Omega.{arith}

@@ -14,9 +14,9 @@ use Rattle.job.specs.Job.{first_refusal, head_verdict, members_verdict, add, ste
 use Rattle.form.specs.Inner.LinesRead.{group_seen}
 use Rattle.form.specs.Inner.Tally.{group_tally}
 use Rattle.form.specs.Laws.Tally.{GroupFacts, group_facts, numbers_of}
-use Rattle.job.specs.Laws.Verdicts.{HeadGood, first_zero, head_good, limit_coded}
-use Rattle.job.specs.Laws.Placed.{members_from, placed, placed_number}
-use Rattle.job.specs.Laws.Taking.{not_in_form, group_refused, group_next, group_holds, head_numbers, heads_alike}
+use Rattle.job.proofs.Laws.Verdicts.{HeadGood, first_zero, head_good, limit_coded}
+use Rattle.job.proofs.Laws.Placed.{members_from, placed, placed_number}
+use Rattle.job.proofs.Laws.Taking.{not_in_form, group_refused, group_next, group_holds, head_numbers, heads_alike}
 use native.Mathlib.Omega.{arith}
 use borrow.Author.Rules.{rules}
 use Rattle.job.proofs.steps.take_group.Statement.{statement}

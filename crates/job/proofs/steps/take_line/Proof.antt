@@ -5,7 +5,7 @@ use Rattle.text.specs.Laws.Parsed.{mapped_failed, mapped_parsed}
 use Rattle.text.specs.Laws.Spots.{told}
 use Rattle.form.specs.Form.{unit_as}
 use Rattle.form.specs.Inner.LinesRead.{kept_unit, unit_seen}
-use Rattle.job.specs.Laws.Taking.{line_is_group, line_is_unit}
+use Rattle.job.proofs.Laws.Taking.{line_is_group, line_is_unit}
 use borrow.Author.Rules.{rules}
 use Rattle.job.proofs.steps.take_line.Statement.{statement}
 use Rattle.job.proofs.steps.take_line.Tie as tie

@@ -2,8 +2,8 @@
 use mathlib.Core.Path.{sym, ◌∙◌}
 use Rattle.job.specs.Job.{add}
 use Rattle.form.specs.Form.{unit}
-use Rattle.job.specs.Laws.Verdicts.{unit_good}
-use Rattle.job.specs.Laws.Taking.{verdict_kept, unit_refused, unit_next, unit_holds}
+use Rattle.job.proofs.Laws.Verdicts.{unit_good}
+use Rattle.job.proofs.Laws.Taking.{verdict_kept, unit_refused, unit_next, unit_holds}
 use native.Mathlib.Omega.{arith}
 use borrow.Author.Rules.{rules}
 use Rattle.job.proofs.steps.take_unit.Statement.{statement}

@@ -6,8 +6,8 @@ use Prim.Native.Nat.{ℕ}
 use mathlib.Core.Path.{◌≡◌, refl}
 use lib.Dec.{leb, eqb}
 use Rattle.model.specs.Shares.{greatest_share}
-use Rattle.model.specs.Laws.Shares.{valid_is_share, beyond_no_share}
-use Rattle.model.specs.Laws.Refusals.{passes, fails}
+use Rattle.model.proofs.Laws.Shares.{valid_is_share, beyond_no_share}
+use Rattle.model.proofs.Laws.Refusals.{passes, fails}
 use Rattle.model.specs.Refusals.{unless}
 use Rattle.job.specs.Job.{unit_verdict}
 use Rattle.job.proofs.steps.unit_verdict.Statement.{statement}

@@ -3,9 +3,9 @@ use borrow.Author.Rules.{rules}
 use native.Mathlib.Omega.{arith}
 use Prim.Native.Nat.{ℕ, ◌≤◌}
 use Rattle.model.specs.Levels.{total_at, level, remainder}
-use Rattle.model.specs.Laws.Level.{total_at_least}
+use Rattle.model.proofs.Laws.Level.{total_at_least}
 use Rattle.levelling.specs.Laws.Additions.{most_additions_lem, few_levels}
-use Rattle.model.specs.Laws.Sound.{level_within}
+use Rattle.model.proofs.Laws.Sound.{level_within}
 use Rattle.levelling.proofs.levels.find_level.Statement.{statement}
 use Rattle.levelling.proofs.levels.find_level.Tie as tie
 

@@ -5,7 +5,7 @@ use native.Mathlib.Omega.{arith}
 use mathlib.Core.List.{List}
 use mathlib.Core.Path.{◌≡◌}
 use Prim.Native.Nat.{ℕ, suc, ◌+◌, ◌-◌, ◌≤◌, ◌<◌}
-use Rattle.model.specs.Laws.Level.{level_unique}
+use Rattle.model.proofs.Laws.Level.{level_unique}
 use Rattle.levelling.specs.Additions.{ByHalving}
 use Rattle.levelling.specs.Laws.Additions.{halved_none, halved_once, few_levels}
 use Rattle.levelling.specs.Inner.Searching.{LevelBetween}

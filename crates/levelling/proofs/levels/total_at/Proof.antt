@@ -6,9 +6,9 @@ use Prim.Native.Nat.{◌+◌, ◌-◌, ◌≤◌}
 use lib.ListN.{length, drop, drop_of_length-le}
 use Rattle.model.specs.Shares.{sum}
 use Rattle.model.specs.Levels.{total_at, clamped}
-use Rattle.model.specs.Laws.Lists.{ranges_at}
-use Rattle.model.specs.Laws.Walk.{total_at_walk}
-use Rattle.model.specs.Laws.Sound.{total_at_small}
+use Rattle.model.proofs.Laws.Lists.{ranges_at}
+use Rattle.model.proofs.Laws.Walk.{total_at_walk}
+use Rattle.model.proofs.Laws.Sound.{total_at_small}
 use Rattle.levelling.proofs.levels.total_at.Statement.{statement}
 use Rattle.levelling.proofs.levels.total_at.Tie as tie
 

@@ -6,16 +6,16 @@ use mathlib.Core.List.{List}
 use mathlib.Core.Path.{◌≡◌, refl, sym, ◌∙◌}
 use Prim.Native.Nat.{ℕ, ◌+◌, ◌-◌, ◌*◌, ◌≤◌, ◌<◌}
 use lib.ListN.{length, get_or}
-use Rattle.model.specs.Laws.Spread.{cauchy_schwarz}
+use Rattle.model.proofs.Laws.Spread.{cauchy_schwarz}
 use Rattle.model.specs.Shares.{pick, sum, Within, greatest_share, sum_of, greatest_total, most_units}
 use Rattle.model.specs.Running.{runs, running}
-use Rattle.model.specs.Laws.Running.{marked_length, running_length, running_few, running_within, running_sum_of, running_sum}
+use Rattle.model.proofs.Laws.Running.{marked_length, running_length, running_few, running_within, running_sum_of, running_sum}
 use Rattle.model.specs.Figures.{apart, deviation, spread}
 use Rattle.model.specs.Sound.{SoundRanges}
-use Rattle.model.specs.Laws.Sound.{running_sound}
+use Rattle.model.proofs.Laws.Sound.{running_sound}
 use Rattle.levelling.specs.Laws.Shared.{own_within}
 use Rattle.levelling.specs.Laws.Summing.{Summed, SummedRunning, summed_step, running_step, summed_all, summed_running}
-use Rattle.model.specs.Laws.Bounds.{share_small, sum_small, squares_small, deviation_small}
+use Rattle.model.proofs.Laws.Bounds.{share_small, sum_small, squares_small, deviation_small}
 use Rattle.levelling.proofs.plans.figures_of.Statement.{statement}
 use Rattle.levelling.proofs.plans.figures_of.Tie as tie
 

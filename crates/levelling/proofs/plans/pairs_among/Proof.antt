@@ -2,8 +2,8 @@
 use borrow.Author.Rules.{rules}
 use native.Mathlib.Omega.{arith}
 use mathlib.Core.Path.{sym, ◌∙◌}
-use Rattle.model.specs.Laws.Lists.{sum_sum_of}
-use Rattle.model.specs.Laws.Pairs.{pairs_same}
+use Rattle.model.proofs.Laws.Lists.{sum_sum_of}
+use Rattle.model.proofs.Laws.Pairs.{pairs_same}
 use Rattle.levelling.proofs.plans.pairs_among.Statement.{statement}
 use Rattle.levelling.proofs.plans.pairs_among.Tie as tie
 

@@ -8,8 +8,8 @@ use lib.ListN.{length, take, drop, length-append}
 use lib.Seq.{take_at, take-append-le, length-take-le}
 use Rattle.model.specs.Figures.{pairs}
 use Rattle.model.specs.Running.{running}
-use Rattle.model.specs.Laws.Bounds.{sum_small}
-use Rattle.model.specs.Laws.Running.{marked_length, running_few, running_sum}
+use Rattle.model.proofs.Laws.Bounds.{sum_small}
+use Rattle.model.proofs.Laws.Running.{marked_length, running_few, running_sum}
 use Rattle.levelling.specs.Laws.Shared.{own_within}
 use Rattle.levelling.proofs.plans.pairs_of.Statement.{statement}
 use Rattle.levelling.proofs.plans.pairs_of.Tie as tie

@@ -6,11 +6,11 @@ use mathlib.Core.Path.{◌≡◌, sym, ◌∙◌}
 use Prim.Native.Nat.{ℕ, ◌+◌, ◌-◌, ◌≤◌}
 use lib.ListN.{length, get_or, drop}
 use lib.Seq.{length-take-le, drop_at}
-use Rattle.model.specs.Laws.Bars.{BarTaken, at_fits, bar_taken, taken_most}
-use Rattle.model.specs.Laws.Bounds.{share_at_small}
-use Rattle.model.specs.Laws.Headroom.{growth_most}
-use Rattle.model.specs.Laws.Lists.{ranges_at}
-use Rattle.model.specs.Laws.Walk.{Handing, handing_none, handing_step, written_all}
+use Rattle.model.proofs.Laws.Bars.{BarTaken, at_fits, bar_taken, taken_most}
+use Rattle.model.proofs.Laws.Bounds.{share_at_small}
+use Rattle.model.proofs.Laws.Headroom.{growth_most}
+use Rattle.model.proofs.Laws.Lists.{ranges_at}
+use Rattle.model.proofs.Laws.Walk.{Handing, handing_none, handing_step, written_all}
 use Rattle.levelling.proofs.shares.fill_plan.Statement.{statement}
 use Rattle.levelling.proofs.shares.fill_plan.Tie as tie
 

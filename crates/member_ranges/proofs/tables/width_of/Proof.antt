@@ -4,8 +4,8 @@ use native.Mathlib.Omega.{arith}
 use mathlib.Core.Path.{◌≡◌}
 use Prim.Native.Nat.{◌+◌, ◌-◌, ◌≤◌}
 use lib.ListN.{length, drop, drop_of_length-le}
-use Rattle.model.specs.Laws.Sound.{highs_small}
-use Rattle.model.specs.Laws.Lists.{ranges_at}
+use Rattle.model.proofs.Laws.Sound.{highs_small}
+use Rattle.model.proofs.Laws.Lists.{ranges_at}
 use Rattle.member_ranges.specs.Tables.{widths}
 use Rattle.member_ranges.specs.Laws.Inside.{widths_sums, widths_walk}
 use Rattle.member_ranges.proofs.tables.width_of.Statement.{statement}

@@ -7,7 +7,7 @@ use mathlib.Core.Path.{◌≡◌}
 use Prim.Native.Nat.{ℕ, suc, ◌+◌, ◌-◌, ◌*◌, ◌≤◌}
 use lib.ListN.{get_or}
 use Rattle.model.specs.Shares.{greatest_total, most_units}
-use Rattle.model.specs.Laws.Pairs.{PairsFrom, pairs_none, pairs_step, from_here, told_small}
+use Rattle.model.proofs.Laws.Pairs.{PairsFrom, pairs_none, pairs_step, from_here, told_small}
 use Rattle.model.proofs.differences.sorted_pairs.Statement.{statement}
 use Rattle.model.proofs.differences.sorted_pairs.Tie as tie
 

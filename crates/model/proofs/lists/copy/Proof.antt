@@ -4,7 +4,7 @@ use native.Mathlib.Omega.{arith}
 use Prim.Native.Nat.{◌-◌, ◌≤◌}
 use mathlib.Core.Path.{refl}
 use lib.ListN.{length}
-use Rattle.model.specs.Laws.Writing.{Filled, filled_none, filled_more, filled_all}
+use Rattle.model.proofs.Laws.Writing.{Filled, filled_none, filled_more, filled_all}
 use Rattle.model.proofs.lists.copy.Statement.{statement}
 use Rattle.model.proofs.lists.copy.Tie as tie
 

@@ -5,7 +5,7 @@ use Prim.Native.Nat.{◌+◌, ◌-◌, ◌≤◌}
 use mathlib.Core.Path.{sym, ap, ◌∙◌}
 use lib.ListN.{length, get_or, set}
 use lib.Seq.{length-take-le}
-use Rattle.model.specs.Laws.Packing.{Packed, packed_none, packed_step, packed_all}
+use Rattle.model.proofs.Laws.Packing.{Packed, packed_none, packed_step, packed_all}
 use Rattle.model.proofs.running.pack.Statement.{statement}
 use Rattle.model.proofs.running.pack.Tie as tie
 

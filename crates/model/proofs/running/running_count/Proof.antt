@@ -4,8 +4,8 @@ use native.Mathlib.Omega.{arith}
 use Prim.Native.Nat.{◌+◌, ◌-◌, ◌≤◌}
 use mathlib.Core.Path.{◌≡◌}
 use lib.ListN.{length}
-use Rattle.model.specs.Laws.Running.{running_few}
-use Rattle.model.specs.Laws.Packing.{running_from, ahead_step, ahead_none}
+use Rattle.model.proofs.Laws.Running.{running_few}
+use Rattle.model.proofs.Laws.Packing.{running_from, ahead_step, ahead_none}
 use Rattle.model.proofs.running.running_count.Statement.{statement}
 use Rattle.model.proofs.running.running_count.Tie as tie
 

@@ -4,7 +4,7 @@ use native.Mathlib.Omega.{arith}
 use Prim.Native.Nat.{◌-◌, ◌≤◌, ◌<◌}
 use mathlib.Core.Path.{◌≡◌, sym, ◌∙◌}
 use lib.ListN.{length, take}
-use Rattle.model.specs.Laws.Packing.{Unpacked, unpacked_none, member_before, still, unpacked_step, unpacked_all}
+use Rattle.model.proofs.Laws.Packing.{Unpacked, unpacked_none, member_before, still, unpacked_step, unpacked_all}
 use Rattle.model.proofs.running.unpack.Statement.{statement}
 use Rattle.model.proofs.running.unpack.Tie as tie
 

@@ -1,6 +1,6 @@
 -- The sums of the lows and of the highs decide. Assumes nothing.
 use borrow.Author.Tests.{lt-leb, le-leb}
-use Rattle.model.specs.Laws.Sound.{lows_small, highs_small}
+use Rattle.model.proofs.Laws.Sound.{lows_small, highs_small}
 use Rattle.model.proofs.shares.has_shares.Statement.{statement}
 use Rattle.model.proofs.shares.has_shares.Tie as tie
 

@@ -5,7 +5,7 @@ use mathlib.Core.Path.{◌≡◌}
 use Prim.Native.Nat.{◌+◌, ◌-◌, ◌≤◌}
 use lib.ListN.{length, drop, drop_of_length-le}
 use Rattle.model.specs.Shares.{sum}
-use Rattle.model.specs.Laws.Walk.{sum_walk}
+use Rattle.model.proofs.Laws.Walk.{sum_walk}
 use Rattle.model.proofs.shares.sum_of.Statement.{statement}
 use Rattle.model.proofs.shares.sum_of.Tie as tie
 

@@ -4,7 +4,7 @@ use borrow.Author.Tests.{not-true, not-false}
 use mathlib.Core.Path.{◌≡◌, refl}
 use Rattle.model.specs.Plans.{turn_of}
 use Rattle.model.specs.Sound.{HasShares}
-use Rattle.model.specs.Laws.Sound.{has_shares_lem}
+use Rattle.model.proofs.Laws.Sound.{has_shares_lem}
 use Rattle.narrow.specs.Laws.Turns.{turn_narrowed, turn_planless}
 use Rattle.narrow.proofs.ranges.narrow_core.Statement.{statement}
 use Rattle.narrow.proofs.ranges.narrow_core.Tie as tie

@@ -7,7 +7,7 @@ use mathlib.Core.Path.{◌≡◌, refl, sym, ap, ◌∙◌}
 use lib.ListN.{length}
 use lib.Seq.{length-take-le}
 use Rattle.model.specs.Plans.{narrowed_lows, narrowed_highs}
-use Rattle.model.specs.Laws.Narrowing.{narrowed_lows_length, narrowed_highs_length}
+use Rattle.model.proofs.Laws.Narrowing.{narrowed_lows_length, narrowed_highs_length}
 use Rattle.narrow.specs.Laws.Tabled.{probe_sound, asked_for}
 use Rattle.narrow.specs.Laws.Turns.{if_planned}
 use Rattle.narrow.proofs.ranges.narrow_with.Statement.{statement}

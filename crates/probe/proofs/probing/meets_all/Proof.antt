@@ -1,7 +1,7 @@
 -- The group has a plan where the figures that are limited are within the terms. Assumes nothing.
 use borrow.Author.Rules.{rules}
 use mathlib.Core.Path.{sym, ◌∙◌}
-use Rattle.model.specs.Laws.Tests.{and_true}
+use Rattle.model.proofs.Laws.Tests.{and_true}
 use Rattle.probe.specs.Laws.Verdicts.{decides, pairs_unasked}
 use Rattle.probe.proofs.probing.meets_all.Statement.{statement}
 use Rattle.probe.proofs.probing.meets_all.Tie as tie

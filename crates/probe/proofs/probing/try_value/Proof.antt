@@ -5,7 +5,7 @@ use mathlib.Core.List.{List}
 use mathlib.Core.Path.{◌≡◌, refl, sym}
 use Prim.Native.Nat.{ℕ}
 use Rattle.model.specs.Plans.{has_plan}
-use Rattle.model.specs.Laws.Tests.{clash}
+use Rattle.model.proofs.Laws.Tests.{clash}
 use Rattle.probe.specs.Inner.Pinned.{Pin}
 use Rattle.probe.specs.Inner.Probes.{LastWithin}
 use Rattle.probe.specs.Inner.Verdicts.{Lookable, Decides}

@@ -2,7 +2,7 @@
 use borrow.Author.Tests.{le-leb, lt-leb}
 use mathlib.Core.Path.{sym}
 use lib.Dec.{leb}
-use Rattle.model.specs.Laws.Tests.{right_fails, and_true}
+use Rattle.model.proofs.Laws.Tests.{right_fails, and_true}
 use Rattle.probe.proofs.probing.within.Statement.{statement}
 use Rattle.probe.proofs.probing.within.Tie as tie
 

@@ -6,8 +6,8 @@ use mathlib.Core.List.{List}
 use Prim.Native.Nat.{ℕ, ◌+◌, ◌-◌, ◌*◌, ◌≤◌, ◌<◌}
 use lib.ListN.{length, get_or}
 use Rattle.model.specs.Shares.{greatest_share, sum_of}
-use Rattle.model.specs.Laws.Lists.{ranges_at}
-use Rattle.model.specs.Laws.Spread.{sum_of_bound}
+use Rattle.model.proofs.Laws.Lists.{ranges_at}
+use Rattle.model.proofs.Laws.Spread.{sum_of_bound}
 use Rattle.breakpoints.specs.Laws.Sums.{Added, added_none, added_one, added_all}
 use Rattle.probe.specs.Laws.Sides.{above_small, below_small}
 use Rattle.breakpoints.specs.Inner.Tables.{greatest_part}

@@ -7,7 +7,7 @@ use Prim.Native.Nat.{ℕ, ◌≤◌, ◌<◌}
 use Rattle.model.specs.Shares.{greatest_share}
 use Rattle.model.specs.Figures.{apart}
 use Rattle.model.specs.Plans.{taken}
-use Rattle.model.specs.Laws.Tests.{clash}
+use Rattle.model.proofs.Laws.Tests.{clash}
 use Rattle.range_ends.specs.Inner.Known.{Bracketed}
 use Rattle.range_ends.specs.Laws.Edges.{straddle_start, straddle_in, straddle_out, amid_nearer}
 use Rattle.range_ends.specs.Laws.Reaching.{told}

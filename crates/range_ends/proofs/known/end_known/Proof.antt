@@ -4,7 +4,7 @@ use borrow.Author.Tests.{leb-true, not-false}
 use native.Mathlib.Omega.{arith}
 use mathlib.Core.Path.{refl}
 use Prim.Native.Nat.{◌≤◌}
-use Rattle.model.specs.Laws.Tests.{clash}
+use Rattle.model.proofs.Laws.Tests.{clash}
 use Rattle.range_ends.proofs.known.end_known.Statement.{statement}
 use Rattle.range_ends.proofs.known.end_known.Tie as tie
 

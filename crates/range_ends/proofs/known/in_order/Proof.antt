@@ -1,7 +1,7 @@
 -- The tests in turn. Assumes nothing.
 use borrow.Author.Rules.{rules}
 use mathlib.Core.Path.{refl}
-use Rattle.model.specs.Laws.Tests.{clash}
+use Rattle.model.proofs.Laws.Tests.{clash}
 use Rattle.range_ends.proofs.known.in_order.Statement.{statement}
 use Rattle.range_ends.proofs.known.in_order.Tie as tie
 

@@ -1,7 +1,7 @@
 -- The tests in turn, each with what it tells. Assumes nothing.
 use borrow.Author.Rules.{rules}
 use mathlib.Core.Path.{refl}
-use Rattle.model.specs.Laws.Tests.{clash}
+use Rattle.model.proofs.Laws.Tests.{clash}
 use Rattle.range_ends.specs.Inner.Known.{SeenTo}
 use Rattle.range_ends.proofs.known.seen_at.Statement.{statement}
 use Rattle.range_ends.proofs.known.seen_at.Tie as tie

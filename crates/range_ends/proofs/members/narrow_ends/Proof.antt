@@ -8,8 +8,8 @@ use Prim.Native.Nat.{ℕ, ◌+◌, ◌-◌, ◌≤◌, ◌<◌, min}
 use lib.ListN.{length, get_or}
 use Rattle.model.specs.Levels.{clamp, growth}
 use Rattle.model.specs.Shares.{pick}
-use Rattle.model.specs.Laws.Lists.{ranges_at}
-use Rattle.model.specs.Laws.Writing.{Filled, filled_none, filled_more, filled_all}
+use Rattle.model.proofs.Laws.Lists.{ranges_at}
+use Rattle.model.proofs.Laws.Writing.{Filled, filled_none, filled_more, filled_all}
 use Rattle.range_ends.specs.Inner.Edges.{Planned}
 use Rattle.range_ends.specs.Inner.Known.{SharedHolds}
 use Rattle.range_ends.specs.Inner.Members.{narrowed_ends}

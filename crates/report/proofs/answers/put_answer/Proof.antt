@@ -5,7 +5,7 @@ use lib.ListN.{length, take}
 use lib.Seq.{length-take-le}
 use Rattle.groups.specs.Inner.Flat.{groups_in, marks_in}
 use Rattle.report.specs.Inner.Asked.{FrontReportable}
-use Rattle.report.specs.Laws.Texts.{answer_written}
+use Rattle.report.proofs.Laws.Texts.{answer_written}
 use Rattle.report.proofs.answers.put_answer.Statement.{statement}
 use Rattle.report.proofs.answers.put_answer.Tie as tie
 

@@ -7,12 +7,12 @@ use mathlib.Core.Path.{refl}
 use lib.ListN.{length}
 use Rattle.form.specs.Form.{most_bytes}
 use Rattle.model.specs.Groups.{Group}
-use Rattle.model.specs.Laws.Lists.{ranges_length}
+use Rattle.model.proofs.Laws.Lists.{ranges_length}
 use Rattle.print.specs.Inner.Written.{Room}
 use Rattle.print.specs.Laws.Written.{Rest, begin, room_next, next, done, from_start}
 use Rattle.groups.specs.Inner.Flat.{groups_in, marks_in}
 use Rattle.member_ranges.specs.Tables.{Table, table_of}
-use Rattle.report.specs.Laws.Lengths.{report_fits}
+use Rattle.report.proofs.Laws.Lengths.{report_fits}
 use Rattle.report.specs.Lines.{settled_line}
 use Rattle.report.specs.Reportable.{Reportable}
 use Rattle.report.specs.Reports.{unit_lines, group_lines, report_of}

@@ -7,7 +7,7 @@ use lib.ListN.{length, take, drop}
 use Rattle.groups.specs.Inner.Flat.{marks_from, marks_in, group_in}
 use Rattle.groups.specs.declared.Stored.{Stored}
 use Rattle.member_ranges.specs.Laws.Parts.{part}
-use Rattle.report.specs.Laws.Printing.{marks_counted, levelled_in}
+use Rattle.report.proofs.Laws.Printing.{marks_counted, levelled_in}
 use Rattle.report.proofs.group_lines.level_stored.Statement.{statement}
 use Rattle.report.proofs.group_lines.level_stored.Tie as tie
 

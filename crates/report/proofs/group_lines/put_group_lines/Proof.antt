@@ -16,7 +16,7 @@ use Rattle.works.specs.Inner.Asked.{HoldsMembers}
 use Rattle.member_ranges.specs.Tables.{Table, table_of}
 use Rattle.report.specs.Reportable.{Levelable}
 use Rattle.report.specs.Inner.Asked.{marks_for, line_of_levelling}
-use Rattle.report.specs.Laws.Printing.{Printing, printing_start, printing_end, coming, next_levelable, next_rest, next_printing, count_few, levelled_line_lem}
+use Rattle.report.proofs.Laws.Printing.{Printing, printing_start, printing_end, coming, next_levelable, next_rest, next_printing, count_few, levelled_line_lem}
 use Rattle.report.specs.Reports.{line_of}
 use Rattle.report.proofs.group_lines.put_group_lines.Statement.{statement}
 use Rattle.report.proofs.group_lines.put_group_lines.Tie as tie

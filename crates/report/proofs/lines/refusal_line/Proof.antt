@@ -4,7 +4,7 @@ use native.Mathlib.Omega.{arith}
 use Rattle.print.specs.Inner.Written.{Room}
 use Rattle.print.specs.Laws.Written.{from_start}
 use Rattle.report.specs.Lines.{refusal_line}
-use Rattle.report.specs.Laws.Lengths.{refusal_length}
+use Rattle.report.proofs.Laws.Lengths.{refusal_length}
 use Rattle.report.proofs.lines.refusal_line.Statement.{statement}
 use Rattle.report.proofs.lines.refusal_line.Tie as tie
 

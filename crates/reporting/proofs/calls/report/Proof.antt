@@ -1,7 +1,7 @@
 -- A short buffer is refused; else the text is reported by way of the flat list. Assumes nothing.
 use borrow.Author.Rules.{rules}
 use lib.ListN.{length}
-use Rattle.report.specs.Laws.Texts.{buffer_short}
+use Rattle.report.proofs.Laws.Texts.{buffer_short}
 use Rattle.reporting.proofs.calls.report.Statement.{statement}
 use Rattle.reporting.proofs.calls.report.Tie as tie
 

@@ -3,8 +3,8 @@ use borrow.Author.Rules.{rules}
 use mathlib.Core.Path.{◌∙◌}
 use native.Mathlib.Omega.{arith}
 use lib.ListN.{length}
-use Rattle.works.specs.Laws.Accepted.{read_prepared}
-use Rattle.report.specs.Laws.Texts.{read_limits, read_reports, refused_reports}
+use Rattle.works.proofs.Laws.Accepted.{read_prepared}
+use Rattle.report.proofs.Laws.Texts.{read_limits, read_reports, refused_reports}
 use Rattle.reporting.proofs.calls.report_by.Statement.{statement}
 use Rattle.reporting.proofs.calls.report_by.Tie as tie
 

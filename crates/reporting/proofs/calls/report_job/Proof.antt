@@ -3,8 +3,8 @@ use borrow.Author.Rules.{rules}
 use mathlib.Core.Path.{◌∙◌}
 use native.Mathlib.Omega.{arith}
 use lib.ListN.{length}
-use Rattle.report.specs.Laws.Settled.{settles_answerable}
-use Rattle.report.specs.Laws.Texts.{settled_reports}
+use Rattle.report.proofs.Laws.Settled.{settles_answerable}
+use Rattle.report.proofs.Laws.Texts.{settled_reports}
 use Rattle.reporting.proofs.calls.report_job.Statement.{statement}
 use Rattle.reporting.proofs.calls.report_job.Tie as tie
 

@@ -1,7 +1,7 @@
 -- The table that is read opens the settling, whose answer is printed; so is the line of a refusal. Assumes nothing.
 use borrow.Author.Rules.{rules}
 use mathlib.Core.Path.{refl}
-use Rattle.report.specs.Laws.Printed.{answer_prints, refused_prints, read_opens, refusal_printed}
+use Rattle.report.proofs.Laws.Printed.{answer_prints, refused_prints, read_opens, refusal_printed}
 use Rattle.reporting.proofs.program.print_by.Statement.{statement}
 use Rattle.reporting.proofs.program.print_by.Tie as tie
 

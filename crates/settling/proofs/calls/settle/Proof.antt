@@ -3,7 +3,7 @@ use borrow.Author.Rules.{rules}
 use mathlib.Core.Path.{◌∙◌}
 use native.Mathlib.Omega.{arith}
 use lib.ListN.{length}
-use Rattle.works.specs.Laws.Accepted.{read_prepared, read_settles, refused_settles}
+use Rattle.works.proofs.Laws.Accepted.{read_prepared, read_settles, refused_settles}
 use Rattle.settling.proofs.calls.settle.Statement.{statement}
 use Rattle.settling.proofs.calls.settle.Tie as tie
 

@@ -10,7 +10,7 @@ use Rattle.list_checks.specs.declared.Check.TheVariants.{Passed}
 use Rattle.groups.specs.Inner.Flat.{marks_from, marks_in}
 use Rattle.member_ranges.specs.Laws.Parts.{part}
 use Rattle.works.specs.Calls.{check_table}
-use Rattle.works.specs.Laws.Checked.{Roomy, passed_room, passed_opening, passed_settles, failed_refuses}
+use Rattle.works.proofs.Laws.Checked.{Roomy, passed_room, passed_opening, passed_settles, failed_refuses}
 use Rattle.settling.proofs.calls.settle_job.Statement.{statement}
 use Rattle.settling.proofs.calls.settle_job.Tie as tie
 

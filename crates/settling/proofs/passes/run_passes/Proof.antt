@@ -7,7 +7,7 @@ use mathlib.Core.Path.{◌≡◌, refl, sym, ◌∙◌}
 use native.Mathlib.Omega.{arith}
 use Prim.Native.Nat.{ℕ, ◌-◌}
 use lib.ListN.{length}
-use Rattle.works.specs.Laws.Answers.{settled_answer, refused_answer}
+use Rattle.works.proofs.Laws.Answers.{settled_answer, refused_answer}
 use Rattle.groups.specs.Inner.Flat.{stored_at}
 use Rattle.groups.specs.Laws.Walk.{walk_whole}
 use Rattle.groups.specs.declared.Stored.{Stored}
@@ -15,7 +15,7 @@ use Rattle.member_ranges.specs.Inner.Members.{MemberRoom}
 use Rattle.works.specs.Inner.Asked.{running_in}
 use Rattle.works.specs.Settling as settling
 use Rattle.member_ranges.specs.Tables.{Table, table_of, units, width}
-use Rattle.works.specs.Laws.Running.{PassUnderWay, Unsettled, opening_sound, width_small, passing_sound, passing_start, passing_end, next_holds, next_turning, next_stops, next_passes, unsettled_start, pass_refused, pass_settled, pass_falls, pass_goes_on}
+use Rattle.works.proofs.Laws.Running.{PassUnderWay, Unsettled, opening_sound, width_small, passing_sound, passing_start, passing_end, next_holds, next_turning, next_stops, next_passes, unsettled_start, pass_refused, pass_settled, pass_falls, pass_goes_on}
 use Rattle.settling.proofs.passes.run_passes.Statement.{statement}
 use Rattle.settling.proofs.passes.run_passes.Tie as tie
 

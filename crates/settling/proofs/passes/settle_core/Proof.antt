@@ -9,7 +9,7 @@ use types.Run.{OneOf}
 use denote.Enum.Declared.{tag_of}
 use Rattle.works.specs.contracts.Settling.{the_type}
 use Rattle.works.specs.Answers.{answer_of, table_after}
-use Rattle.works.specs.Laws.Answers.{settled_any}
+use Rattle.works.proofs.Laws.Answers.{settled_any}
 use Rattle.works.specs.Inner.Asked.{running_in}
 use Rattle.works.specs.Settling.{Outcome, settle}
 use Rattle.member_ranges.specs.Tables.{Table, table_of, units}

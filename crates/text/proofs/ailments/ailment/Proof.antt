@@ -3,7 +3,7 @@ use mathlib.Core.Path.{refl, sym, ◌∙◌}
 use borrow.Author.Rules.{rules}
 use borrow.Author.Tests.{not-true, not-false}
 use Rattle.text.specs.Ailments.{ailment_of}
-use Rattle.model.specs.Laws.Refusals.{passes, fails}
+use Rattle.model.proofs.Laws.Refusals.{passes, fails}
 use Rattle.text.specs.Laws.Walking.{ended_front, named_front}
 use Rattle.text.proofs.ailments.ailment.Statement.{statement}
 use Rattle.text.proofs.ailments.ailment.Tie as tie

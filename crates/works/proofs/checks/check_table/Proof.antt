@@ -6,7 +6,7 @@ use mathlib.Core.Path.{◌≡◌, sym}
 use lib.ListN.{length}
 use lib.Seq.{length-take-le}
 use Rattle.works.specs.Calls.{has_room, check_table}
-use Rattle.works.specs.Laws.Checked.{Roomy, roomy}
+use Rattle.works.proofs.Laws.Checked.{Roomy, roomy}
 use Rattle.works.proofs.checks.check_table.Statement.{statement}
 use Rattle.works.proofs.checks.check_table.Tie as tie
 

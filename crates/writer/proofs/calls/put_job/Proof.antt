@@ -8,15 +8,15 @@ use lib.ListN.{length, take, drop}
 use Rattle.groups.specs.Inner.Flat.{marks_from, marks_in}
 use Rattle.job.specs.Job.{Job}
 use Rattle.job.specs.Sound.{SoundJob}
-use Rattle.model.specs.Laws.Lists.{ranges_length}
-use Rattle.model.specs.Laws.Running.{marked_length}
+use Rattle.model.proofs.Laws.Lists.{ranges_length}
+use Rattle.model.proofs.Laws.Running.{marked_length}
 use Rattle.print.specs.Inner.Written.{Room}
 use Rattle.print.specs.Laws.Written.{Rest, begin, room_next, next, done, from_start}
 use Rattle.member_ranges.specs.Laws.Parts.{part}
 use Rattle.writer.specs.Inner.Asked.{job_held}
 use Rattle.job_lines.specs.Laws.Course.{accepted_more}
-use Rattle.writer.specs.Laws.Held.{marks_room}
-use Rattle.writer.specs.Laws.Lengths.{text_fits}
+use Rattle.writer.proofs.Laws.Held.{marks_room}
+use Rattle.writer.proofs.Laws.Lengths.{text_fits}
 use Rattle.job_lines.specs.Laws.Pieces.{text_printed}
 use Rattle.job_lines.specs.Texts.{range_lines, member_line, job_text, most_written}
 use Rattle.writer.proofs.calls.put_job.Statement.{statement}

@@ -1,7 +1,7 @@
 -- A text that is read is written as its groups are; one that is refused leaves the buffer. Assumes nothing.
 use borrow.Author.Rules.{rules}
 use mathlib.Core.Path.{◌∙◌}
-use Rattle.writer.specs.Laws.Held.{read_held, read_writes, refused_writes}
+use Rattle.writer.proofs.Laws.Held.{read_held, read_writes, refused_writes}
 use Rattle.writer.proofs.calls.write.Statement.{statement}
 use Rattle.writer.proofs.calls.write.Tie as tie
 

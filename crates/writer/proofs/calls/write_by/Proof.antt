@@ -5,7 +5,7 @@ use lib.Seq.{length-take-le}
 use Rattle.job.specs.Job.{Job}
 use Rattle.print.specs.Laws.Written.{start_within}
 use Rattle.writer.specs.Inner.Asked.{job_held}
-use Rattle.writer.specs.Laws.Writes.{page_refused, page_room, page_written}
+use Rattle.writer.proofs.Laws.Writes.{page_refused, page_room, page_written}
 use Rattle.job_lines.specs.Texts.{job_text}
 use Rattle.writer.proofs.calls.write_by.Statement.{statement}
 use Rattle.writer.proofs.calls.write_by.Tie as tie

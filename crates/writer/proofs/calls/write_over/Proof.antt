@@ -8,10 +8,10 @@ use lib.Seq.{length-take-le}
 use Rattle.list_checks.specs.declared.Check.TheVariants.{Passed}
 use Rattle.groups.specs.Inner.Flat.{groups_in, marks_from, marks_in}
 use Rattle.works.specs.Calls.{check_table}
-use Rattle.works.specs.Laws.Checked.{Roomy, passed_room}
+use Rattle.works.proofs.Laws.Checked.{Roomy, passed_room}
 use Rattle.member_ranges.specs.Laws.Parts.{part}
-use Rattle.writer.specs.Laws.Held.{held_room, held_sound, held_writes}
-use Rattle.writer.specs.Laws.Writes.{over_failed}
+use Rattle.writer.proofs.Laws.Held.{held_room, held_sound, held_writes}
+use Rattle.writer.proofs.Laws.Writes.{over_failed}
 use Rattle.writer.proofs.calls.write_over.Statement.{statement}
 use Rattle.writer.proofs.calls.write_over.Tie as tie
 

@@ -1,8 +1,8 @@
 -- A settled job is written; for want of a plan the refusal's line is handed on, and no other refusal is left. Assumes nothing.
 use borrow.Author.Rules.{rules}
 use mathlib.Core.Path.{refl}
-use Rattle.report.specs.Laws.Printed.{refusal_printed}
-use Rattle.writer.specs.Laws.Program.{opened_through, refused_hands, settled_through, settled_hands}
+use Rattle.report.proofs.Laws.Printed.{refusal_printed}
+use Rattle.writer.proofs.Laws.Program.{opened_through, refused_hands, settled_through, settled_hands}
 use Rattle.writer.proofs.program.hand_answer.Statement.{statement}
 use Rattle.writer.proofs.program.hand_answer.Tie as tie
 

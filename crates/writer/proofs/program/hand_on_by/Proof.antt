@@ -1,9 +1,9 @@
 -- The table that is read opens the settling; a refusal's line is handed on. Assumes nothing.
 use borrow.Author.Rules.{rules}
 use mathlib.Core.Path.{refl}
-use Rattle.report.specs.Laws.Printed.{read_opens, read_refused, refusal_printed}
+use Rattle.report.proofs.Laws.Printed.{read_opens, read_refused, refusal_printed}
 use Rattle.writer.specs.Handing.{handed_read}
-use Rattle.writer.specs.Laws.Handing.{handed_read_lem}
+use Rattle.writer.proofs.Laws.Handing.{handed_read_lem}
 use Rattle.writer.proofs.program.hand_on_by.Statement.{statement}
 use Rattle.writer.proofs.program.hand_on_by.Tie as tie
 

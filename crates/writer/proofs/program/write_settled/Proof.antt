@@ -1,6 +1,6 @@
 -- The text is written; no refusal is left. Assumes nothing.
 use borrow.Author.Rules.{rules}
-use Rattle.writer.specs.Laws.Program.{never_short}
+use Rattle.writer.proofs.Laws.Program.{never_short}
 use Rattle.writer.proofs.program.write_settled.Statement.{statement}
 use Rattle.writer.proofs.program.write_settled.Tie as tie
 

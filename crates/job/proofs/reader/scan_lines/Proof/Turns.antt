@@ -48,7 +48,7 @@ use Rattle.groups.specs.Inner.Flat.{most_flat}
 use Rattle.form.specs.Form.{most_bytes}
 use Rattle.job.specs.Inner.Steps.{Bounded, LineTaken}
 use Rattle.job.specs.Inner.Reading.{Scanned, counts_of}
-use Rattle.job.specs.Laws.Scanning.{Moment, on_line, scanned_counts, scanned_stop}
+use Rattle.job.proofs.Laws.Scanning.{Moment, on_line, scanned_counts, scanned_stop}
 use Rattle.job.specs.declared.steps.Progress.{Progress}
 use Rattle.job.specs.declared.steps.TakenLine.{TakenLine}
 use Rattle.job.specs.declared.steps.TakenLine.TheVariants as taken
