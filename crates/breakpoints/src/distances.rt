@@ -4,7 +4,7 @@ ghost use Rattle.breakpoints.specs.Inner.Distances.{DistancesMoved, DistancesMov
 use crate::rows::{PairRow, Row, read_row};
 
 // A level, T there, how far the shares there are from it in all, and their pair differences.
-#[derive(Drop)]
+#[derive(Clone, Copy)]
 pub struct Distances {
     pub level: u64,
     pub total: u64,

@@ -3,7 +3,7 @@ ghost use Rattle.std.specs.Prelude.{◌≡◌, ◌+◌, ◌*◌, ◌≤◌, leng
 ghost use Rattle.breakpoints.specs.Inner.Rows.{row_at, pair_row_at, last_row, RowWritten, PairRowWritten};
 
 // A breakpoint: its level, T there and the sum of squares of the shares there, and how many lows and highs are passed.
-#[derive(Drop)]
+#[derive(Clone, Copy)]
 pub struct Row {
     pub mark: u64,
     pub total: u64,
@@ -13,7 +13,7 @@ pub struct Row {
 }
 
 // What a breakpoint has where pairs are limited: how far the shares there are from its level in all, and their pair differences.
-#[derive(Drop)]
+#[derive(Clone, Copy)]
 pub struct PairRow {
     pub far: u64,
     pub pairs: u64,

@@ -5,7 +5,7 @@ ghost use Rattle.console.specs.Inner.Inputs.{bytes_read};
 use libc::{STDIN_FILENO, STDOUT_FILENO};
 
 // What reading the input gives: the count of its bytes, or a failed read.
-#[derive(Drop)]
+#[derive(Clone, Copy)]
 pub enum Input {
     Read(usize),
     Failed,

@@ -13,7 +13,7 @@ use model::{Limit, Limits, RUNNING, SHUT};
 use text::{Number, Spot, Step};
 
 // A unit line: its low, its high and its mark, 0 running, 1 shut.
-#[derive(Drop)]
+#[derive(Clone, Copy)]
 pub struct Unit {
     pub low: u64,
     pub high: u64,
@@ -21,21 +21,21 @@ pub struct Unit {
 }
 
 // What reading a unit line answers: the unit, and the spot after it.
-#[derive(Drop)]
+#[derive(Clone, Copy)]
 pub enum UnitRead {
     Is(Unit, Spot),
     Missing,
 }
 
 // What reading a limit answers: the limit, and the spot after it.
-#[derive(Drop)]
+#[derive(Clone, Copy)]
 pub enum LimitRead {
     Is(Limit, Spot),
     Missing,
 }
 
 // What reading a pairs limit answers: whether it is there, the limit, any where it is not, and the spot after it.
-#[derive(Drop)]
+#[derive(Clone, Copy)]
 pub struct PairsRead {
     pub there: bool,
     pub limit: Limit,
@@ -43,7 +43,7 @@ pub struct PairsRead {
 }
 
 // A group line up to its members: its total and limits, and whether a pairs limit is there.
-#[derive(Drop)]
+#[derive(Clone, Copy)]
 pub struct Head {
     pub total: u64,
     pub limits: Limits,
@@ -51,14 +51,14 @@ pub struct Head {
 }
 
 // What reading it answers: the head, and the spot after it.
-#[derive(Drop)]
+#[derive(Clone, Copy)]
 pub enum HeadRead {
     Is(Head, Spot),
     Missing,
 }
 
 // The members of a group line: how many, whether all are unit numbers, and the spot after them.
-#[derive(Drop)]
+#[derive(Clone, Copy)]
 pub struct Members {
     pub count: usize,
     pub within: bool,
@@ -66,7 +66,7 @@ pub struct Members {
 }
 
 // What reading a group line answers: its head, and its members with the spot after the line.
-#[derive(Drop)]
+#[derive(Clone, Copy)]
 pub enum GroupRead {
     Is(Head, Members),
     Missing,

@@ -25,7 +25,7 @@ pub fn level(lows: &[u64], highs: &[u64], marks: &[u64], total: u64, plan: &mut 
 }
 
 // What narrowing a group answers; the ranges lie in its lists.
-#[derive(Drop)]
+#[derive(Clone, Copy)]
 pub enum Narrowing {
     Narrowed,
     Refused(Refusal),

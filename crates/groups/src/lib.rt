@@ -22,7 +22,7 @@ pub fn flat_room() -> [u64; MOST_FLAT]
 }
 
 // A group in the list: its total and limits, whether a pairs limit was there, where its members begin, how many they are, and where the next group starts.
-#[derive(Drop)]
+#[derive(Clone, Copy)]
 pub struct Stored {
     pub total: u64,
     pub limits: Limits,

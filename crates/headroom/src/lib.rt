@@ -11,7 +11,7 @@ use model::levels::{extra, growth};
 use sorting::guess_place;
 
 // Copies go to the members with a high above the bar, and the rest to the first with just that high.
-#[derive(Drop)]
+#[derive(Clone, Copy)]
 pub struct HeadroomBar {
     pub high: u64,
     pub rest: u64,

@@ -14,7 +14,7 @@ pub mod reader;
 pub mod steps;
 
 // What reading answers: the counts of units and groups, or a refusal.
-#[derive(Drop)]
+#[derive(Clone, Copy)]
 pub enum Reading {
     Read { units: usize, groups: usize },
     Refused(Refusal),

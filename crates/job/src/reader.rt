@@ -12,7 +12,7 @@ use crate::{Reading, refused};
 use text::Spot;
 
 // The job text, with the spot that reading has reached.
-#[derive(Drop)]
+#[derive(Clone, Copy)]
 pub struct Reader<'a> {
     text: &'a [u8],
     at: usize,

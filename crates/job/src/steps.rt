@@ -22,7 +22,7 @@ use text::Spot;
 use text::ailments::ailment;
 
 // What was read so far.
-#[derive(Drop)]
+#[derive(Clone, Copy)]
 pub struct Progress {
     pub units: usize,
     pub groups: usize,
@@ -30,7 +30,7 @@ pub struct Progress {
 }
 
 // What taking a line answers: what was read with it, and the spot after it.
-#[derive(Drop)]
+#[derive(Clone, Copy)]
 pub enum TakenLine {
     Line(Progress, Spot),
     Refused(Refusal),

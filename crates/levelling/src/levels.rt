@@ -9,7 +9,7 @@ use model::Share;
 use model::levels::clamp;
 
 // The level, and the copies left over there.
-#[derive(Drop)]
+#[derive(Clone, Copy)]
 pub struct FoundLevel {
     pub level: u64,
     pub left: u64,

@@ -17,14 +17,14 @@ pub mod plans;
 pub mod shares;
 
 // What levelling a group answers.
-#[derive(Drop)]
+#[derive(Clone, Copy)]
 pub enum Levelling {
     Levelled { level: Share, figures: Figures },
     Refused(Refusal),
 }
 
 // The level of a group whose total is shared out, and the figures of its shares.
-#[derive(Drop)]
+#[derive(Clone, Copy)]
 struct SharedOut {
     level: u64,
     figures: Figures,

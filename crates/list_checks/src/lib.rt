@@ -10,7 +10,7 @@ use model::{
 };
 
 // What the checks on a group's lists answer.
-#[derive(Drop)]
+#[derive(Clone, Copy)]
 pub enum Check {
     Passed,
     Failed(Refusal),

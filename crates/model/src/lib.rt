@@ -32,13 +32,13 @@ pub const RUNNING: u64 = 0;
 pub const SHUT: u64 = 1;
 
 // A share: a whole number of copies from LEAST to GREATEST.
-#[derive(Drop)]
+#[derive(Clone, Copy)]
 pub struct Share {
     copies: u64,
 }
 
 // What the constructor of a share answers.
-#[derive(Drop)]
+#[derive(Clone, Copy)]
 pub enum Checked {
     Valid(Share),
     Beyond,
@@ -66,11 +66,11 @@ impl Share {
 }
 
 // typeof.n.D of document 001: the sum of |n × share − S|.
-#[derive(Drop)]
+#[derive(Clone, Copy)]
 pub struct Deviation(pub u64);
 
 // n times the squared deviation of document 002: n × (sum of squares) − S × S.
-#[derive(Drop)]
+#[derive(Clone, Copy)]
 pub struct Spread(pub u64);
 
 impl Spread {
@@ -85,11 +85,11 @@ impl Spread {
 }
 
 // The sum of larger less smaller share over all pairs: n × S times the Gini coefficient of document 003.
-#[derive(Drop)]
+#[derive(Clone, Copy)]
 pub struct Pairs(pub u64);
 
 // The figures of a group's shares.
-#[derive(Drop)]
+#[derive(Clone, Copy)]
 pub struct Figures {
     pub deviation: Deviation,
     pub spread: Spread,
@@ -97,7 +97,7 @@ pub struct Figures {
 }
 
 // A limit is a number or the word any.
-#[derive(Drop)]
+#[derive(Clone, Copy)]
 pub enum Limit {
     Any,
     AtMost(u64),
@@ -116,7 +116,7 @@ impl Limit {
 }
 
 // A group's limits.
-#[derive(Drop)]
+#[derive(Clone, Copy)]
 pub struct Limits {
     pub deviation: Limit,
     pub spread: Limit,
@@ -124,21 +124,21 @@ pub struct Limits {
 }
 
 // What is asked of a group's members: a total to share out, within limits.
-#[derive(Drop)]
+#[derive(Clone, Copy)]
 pub struct Question {
     pub total: u64,
     pub limits: Limits,
 }
 
 // A refusal: its number in the specification, and its place.
-#[derive(Drop)]
+#[derive(Clone, Copy)]
 pub struct Refusal {
     pub number: u64,
     pub place: u64,
 }
 
 // What one group's turn answers: its ranges are narrowed, or there is no plan (11 or 12).
-#[derive(Drop)]
+#[derive(Clone, Copy)]
 pub enum Turn {
     Narrowed,
     NoPlan(u64),

@@ -14,7 +14,7 @@ pub mod texts;
 
 // A refusal; number 0 says that there is none.
 #[repr(C)]
-#[derive(Drop)]
+#[derive(Clone, Copy)]
 pub struct ForeignRefusal {
     pub number: u64,
     pub place: u64,
@@ -22,28 +22,28 @@ pub struct ForeignRefusal {
 
 // A deviation figure.
 #[repr(C)]
-#[derive(Drop)]
+#[derive(Clone, Copy)]
 pub struct ForeignDeviation {
     pub value: u64,
 }
 
 // A spread figure.
 #[repr(C)]
-#[derive(Drop)]
+#[derive(Clone, Copy)]
 pub struct ForeignSpread {
     pub value: u64,
 }
 
 // The pair differences.
 #[repr(C)]
-#[derive(Drop)]
+#[derive(Clone, Copy)]
 pub struct ForeignPairs {
     pub value: u64,
 }
 
 // A limit; any limits nothing, and the number is then not looked at.
 #[repr(C)]
-#[derive(Drop)]
+#[derive(Clone, Copy)]
 pub struct ForeignLimit {
     pub any: bool,
     pub at_most: u64,
@@ -51,7 +51,7 @@ pub struct ForeignLimit {
 
 // A group's limits.
 #[repr(C)]
-#[derive(Drop)]
+#[derive(Clone, Copy)]
 pub struct ForeignLimits {
     pub deviation: ForeignLimit,
     pub spread: ForeignLimit,
@@ -60,7 +60,7 @@ pub struct ForeignLimits {
 
 // What levelling answers.
 #[repr(C)]
-#[derive(Drop)]
+#[derive(Clone, Copy)]
 pub struct ForeignLevelled {
     pub refusal: ForeignRefusal,
     pub level: u64,
@@ -71,7 +71,7 @@ pub struct ForeignLevelled {
 
 // What reading a job text answers.
 #[repr(C)]
-#[derive(Drop)]
+#[derive(Clone, Copy)]
 pub struct ForeignRead {
     pub refusal: ForeignRefusal,
     pub units: usize,
@@ -80,7 +80,7 @@ pub struct ForeignRead {
 
 // What settling a job answers; the passes are counted where it settles and for 11 and 12.
 #[repr(C)]
-#[derive(Drop)]
+#[derive(Clone, Copy)]
 pub struct ForeignSettled {
     pub refusal: ForeignRefusal,
     pub passes: u64,
@@ -88,7 +88,7 @@ pub struct ForeignSettled {
 
 // What reporting a job answers: the report's length, and the passes of 11 and 12.
 #[repr(C)]
-#[derive(Drop)]
+#[derive(Clone, Copy)]
 pub struct ForeignReport {
     pub refusal: ForeignRefusal,
     pub passes: u64,
@@ -97,7 +97,7 @@ pub struct ForeignReport {
 
 // What writing a job answers: the text's length.
 #[repr(C)]
-#[derive(Drop)]
+#[derive(Clone, Copy)]
 pub struct ForeignWritten {
     pub refusal: ForeignRefusal,
     pub length: usize,

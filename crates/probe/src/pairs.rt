@@ -18,7 +18,7 @@ use model::levels::{clamp, growth};
 use model::numbers::apart;
 
 // A level with copies left over, and the row below it.
-#[derive(Drop)]
+#[derive(Clone, Copy)]
 pub struct LevelSpot {
     pub row: usize,
     pub level: u64,

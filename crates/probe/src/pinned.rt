@@ -10,7 +10,7 @@ use model::levels::{clamp, growth};
 
 // A value to try for a member with this low and high, and a row to look at first. 0 for a member with the range 0 to 0
 // changes no sum: the group itself.
-#[derive(Drop)]
+#[derive(Clone, Copy)]
 pub struct Trial {
     pub low: u64,
     pub high: u64,
@@ -20,7 +20,7 @@ pub struct Trial {
 
 // A level that the copies left over at a row reach: how many members grow from there, the copies, how many each of them
 // gets, the level, and the copies left over there.
-#[derive(Drop)]
+#[derive(Clone, Copy)]
 pub struct Reach {
     pub growing: u64,
     pub copies: u64,

@@ -18,7 +18,7 @@ use model::{Question, Share};
 
 // What a look at a pinned group finds: half of the deviation and the sum of squares of its levelled shares, and the level
 // of the others there with the copies left over.
-#[derive(Drop)]
+#[derive(Clone, Copy)]
 struct Pinned {
     half: u64,
     squares: u64,
@@ -60,7 +60,7 @@ fn within(terms: Terms, pinned: Pinned) -> bool
 
 // What a trial tells: whether the group with the member pinned to the value has a plan, how far inward of the last value
 // without one to look next, and the row found.
-#[derive(Drop)]
+#[derive(Clone, Copy)]
 pub struct Tried {
     pub taken: bool,
     pub inward: u64,
@@ -145,7 +145,7 @@ pub fn try_paired(lows: &[u64], highs: &[u64], table: &[u64], terms: Terms, tria
 }
 
 // A level with the copies left over there, the row below it, and whether the limits allow the shares there.
-#[derive(Drop)]
+#[derive(Clone, Copy)]
 pub struct Levelled {
     pub row: usize,
     pub level: u64,

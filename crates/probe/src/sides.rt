@@ -9,7 +9,7 @@ use crate::pinned::{Reach, Trial};
 use crate::terms::Terms;
 
 // The sum of n × low − S over the members where that is positive, and of S − n × high likewise.
-#[derive(Drop)]
+#[derive(Clone, Copy)]
 pub struct Sides {
     pub above: u64,
     pub below: u64,

@@ -12,7 +12,7 @@ use model::{Limit, Question};
 
 // How many members a group has, the last row of its table and its total; the most that may lie above the mean, the greatest sum
 // of squares and the greatest pair differences that the limits allow; and the sums over its bounds that the part above the mean comes of.
-#[derive(Drop)]
+#[derive(Clone, Copy)]
 pub struct Terms {
     pub count: u64,
     pub last: usize,

@@ -21,7 +21,7 @@ use probe::terms::{MOST_PAIRS, Terms};
 const NEWTON_STEPS: u64 = 8;
 
 // An end of a member's narrowed range, and what is known after it was found.
-#[derive(Drop)]
+#[derive(Clone, Copy)]
 pub(crate) struct End {
     pub(crate) value: u64,
     pub(crate) shared: Shared,
@@ -29,7 +29,7 @@ pub(crate) struct End {
 
 // Two values of a member, of which no plan gives it the outer one and some plan the inner one; how far inward of the outer
 // one to look next, the row found for the outer one, and what is known of others.
-#[derive(Drop)]
+#[derive(Clone, Copy)]
 struct Gap {
     member: usize,
     outer: u64,

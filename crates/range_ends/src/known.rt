@@ -9,7 +9,7 @@ use model::Share;
 
 // What is known of every member with low at most under and high at least over: some plan gives it inner and, where outer
 // is another value, the one next to inner, none gives it outer.
-#[derive(Drop)]
+#[derive(Clone, Copy)]
 pub(crate) struct Shared {
     pub(crate) under: u64,
     pub(crate) over: u64,
@@ -30,7 +30,7 @@ pub(crate) fn nothing_known() -> Shared
 }
 
 // A share that some plan gives a member, an end of the member's range, a row to look at first, and what is known of others.
-#[derive(Drop)]
+#[derive(Clone, Copy)]
 pub(crate) struct Way {
     pub(crate) member: usize,
     pub(crate) share: u64,
@@ -89,7 +89,7 @@ fn edge_known(low: u64, high: u64, way: Way) -> bool
 }
 
 // How far from the share to the end plans give a member values, where that needs no trial.
-#[derive(Drop)]
+#[derive(Clone, Copy)]
 pub(crate) struct Seen {
     pub(crate) known: bool,
     pub(crate) value: u64,
@@ -126,7 +126,7 @@ pub(crate) fn seen_at(low: u64, high: u64, way: Way) -> Seen
 
 // A value that some plan gives a member and one that none gives it, or the same again. Near is the row found for inner, where it
 // was tried, and far the row found for outer.
-#[derive(Drop)]
+#[derive(Clone, Copy)]
 pub(crate) struct Bracket {
     pub(crate) inner: u64,
     pub(crate) outer: u64,

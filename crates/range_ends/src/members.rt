@@ -11,7 +11,7 @@ use probe::probing::Levelled;
 use probe::terms::Terms;
 
 // What a turn asks of every member: its terms, where the levelled shares are, and whether highs are asked for or lows.
-#[derive(Drop)]
+#[derive(Clone, Copy)]
 pub struct EndsAsked {
     pub terms: Terms,
     pub levelled: Levelled,

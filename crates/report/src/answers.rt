@@ -15,7 +15,7 @@ use crate::lines::{put_settled_line, put_unit_lines, refusal_line};
 use works::Settling;
 
 // How many units and groups a job has.
-#[derive(Drop)]
+#[derive(Clone, Copy)]
 pub struct Counts {
     pub units: usize,
     pub groups: u64,

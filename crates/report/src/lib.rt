@@ -7,7 +7,7 @@ pub mod lines;
 
 // What reporting answers: the length of the report written, and the passes; or no plan, with the refusal's number (11 or 12), its place
 // (the group) and the passes; or refused before any pass.
-#[derive(Drop)]
+#[derive(Clone, Copy)]
 pub enum Reporting {
     Written {
         length: usize,

@@ -17,14 +17,14 @@ use writer::Writing;
 
 // The range of a unit.
 #[repr(C)]
-#[derive(Drop)]
+#[derive(Clone, Copy)]
 pub struct Range {
     pub low: u64,
     pub high: u64,
 }
 
 // The lows and the highs of a table's first entries, and how many they are.
-#[derive(Drop)]
+#[derive(Clone, Copy)]
 struct Bounds {
     lows: [u64; MOST_UNITS],
     highs: [u64; MOST_UNITS],
@@ -77,7 +77,7 @@ fn put_bounds(table: &mut [Range], bounds: Bounds)
 }
 
 // What settling over bounds hands back: the bounds after it, and its answer.
-#[derive(Drop)]
+#[derive(Clone, Copy)]
 struct SettledBounds {
     bounds: Bounds,
     answer: Settling,
@@ -110,7 +110,7 @@ pub fn settle(text: &[u8], table: &mut [Range], scratch: &mut [u64]) -> Settling
 }
 
 // What reporting over bounds hands back: the bounds after it, and its answer.
-#[derive(Drop)]
+#[derive(Clone, Copy)]
 struct ReportedBounds {
     bounds: Bounds,
     answer: Reporting,
@@ -154,7 +154,7 @@ pub fn report(text: &[u8], table: &mut [Range], scratch: &mut [u64], buffer: &mu
 }
 
 // What reading into bounds hands back: the bounds after it, and its answer.
-#[derive(Drop)]
+#[derive(Clone, Copy)]
 struct ReadBounds {
     bounds: Bounds,
     answer: Reading,

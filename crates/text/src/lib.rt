@@ -9,7 +9,7 @@ ghost use Rattle.text.specs.Inner.Spots.{stepped, counted, first_digit, digits_h
 pub mod ailments;
 
 // The kind of a byte, by its number.
-#[derive(Drop)]
+#[derive(Clone, Copy)]
 pub enum Kind {
     Opening,
     Closing,
@@ -33,27 +33,27 @@ pub fn kind_of(byte: u8) -> Kind
 }
 
 // A spot in a text: the number of bytes before it.
-#[derive(Drop)]
+#[derive(Clone, Copy)]
 pub struct Spot {
     pub at: usize,
 }
 
 // What reading a word answers: the spot after it.
-#[derive(Drop)]
+#[derive(Clone, Copy)]
 pub enum Step {
     To(Spot),
     Stop,
 }
 
 // What reading a number answers: its value, and the spot after it.
-#[derive(Drop)]
+#[derive(Clone, Copy)]
 pub enum Number {
     Value(u64, Spot),
     Missing,
 }
 
 // What looking for a digit answers: its value.
-#[derive(Drop)]
+#[derive(Clone, Copy)]
 pub enum Found {
     Is(u64),
     Nothing,

@@ -5,7 +5,7 @@ pub mod checks;
 
 // What settling answers: settled after so many passes; or no plan, with the refusal's number (11 or 12), its place
 // (the group) and the passes; or refused before any pass.
-#[derive(Drop)]
+#[derive(Clone, Copy)]
 pub enum Settling {
     Settled(u64),
     NoPlan {

@@ -5,7 +5,7 @@ pub mod calls;
 pub mod program;
 
 // What writing answers: the length of the text written, or a refusal.
-#[derive(Drop)]
+#[derive(Clone, Copy)]
 pub enum Writing {
     Written(usize),
     Refused(Refusal),
