@@ -1,4 +1,4 @@
-//! Links the planner's archive: the one that PLANNER_ARCHIVE names, else the one that `rt staticlib planner` makes.
+//! Links the planner's archive: the one that PLANNER_ARCHIVE names, else the one that `tools/prove staticlib planner` makes.
 
 use std::path::{Path, PathBuf};
 
@@ -8,7 +8,7 @@ fn main() {
     let shown = archive.display();
     println!("cargo:rerun-if-changed={shown}");
     if !archive.is_file() {
-        eprintln!("no archive at {shown}: 'rt staticlib planner' makes it, PLANNER_ARCHIVE names another");
+        eprintln!("no archive at {shown}: 'tools/prove staticlib planner' makes it, PLANNER_ARCHIVE names another");
         std::process::exit(1);
     }
     let folder = archive.parent().expect("a file lies in a folder");

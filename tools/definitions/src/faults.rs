@@ -46,7 +46,8 @@ fn place(tree: &Tree, id: Id) -> String {
 
 /// Whether a declaration stands in crates/NAME/specs itself.
 fn in_specs(tree: &Tree, id: Id) -> bool {
-    tree.files[id.0].path.split('/').count() == 4
+    let parts: Vec<&str> = tree.files[id.0].path.split('/').collect();
+    parts.len() == 4 && parts[2] == "specs"
 }
 
 fn misplaced(tree: &Tree, id: Id) -> Option<String> {

@@ -52,7 +52,8 @@ fn declaration(kind: Kind, name: &str, lines: &[&str], at: usize) -> Declaration
     let is_clause = |line: &&str| ["requires", "ensures"].iter().any(|word| line.trim_start().starts_with(word));
     let signature = own.iter().position(is_clause).unwrap_or(own.len());
     let mut statement = rust_words(&own[..signature]);
-    statement.extend(words(&own[signature..]));
+    let clauses: Vec<String> = own[signature..].iter().map(|line| unnamed(line)).collect();
+    statement.extend(words(&clauses.iter().map(String::as_str).collect::<Vec<_>>()));
     Declaration {
         name: name.to_string(),
         kind,
@@ -62,6 +63,17 @@ fn declaration(kind: Kind, name: &str, lines: &[&str], at: usize) -> Declaration
         statement,
         body: Vec::new(),
         constructors: Vec::new(),
+    }
+}
+
+/// A clause without its name, which stands for no declaration.
+fn unnamed(line: &str) -> String {
+    let rest = line.trim_start();
+    match rest.split_once(" {") {
+        Some((head, body)) if ["requires ", "ensures "].iter().any(|word| head.starts_with(word)) => {
+            format!("{} {{{body}", head.split(' ').next().unwrap_or(""))
+        }
+        _ => line.to_string(),
     }
 }
 

@@ -43,7 +43,7 @@ impl Tree {
         Ok(tree)
     }
 
-    /// Adds a file by its path, `crates/NAME/specs/..antt` or `crates/NAME/src/..rt`; others are left out.
+    /// Adds a file by its path, `crates/NAME/specs/..antt`, `crates/NAME/proofs/Laws/..antt` or `crates/NAME/src/..rt`; others are left out.
     pub fn add(&mut self, path: &str, text: &str) {
         let parts: Vec<&str> = path.splitn(4, '/').collect();
         if parts.len() < 4 {
@@ -51,6 +51,9 @@ impl Tree {
         }
         let file = match (parts[2], parts[3].strip_suffix(".antt"), parts[3].strip_suffix(".rt")) {
             ("specs", Some(name), _) => specs::read(path, &format!("{}.{}", parts[1], name.replace('/', ".")), text),
+            ("proofs", Some(name), _) if name.starts_with("Laws/") => {
+                specs::read(path, &format!("{}.proofs.{}", parts[1], name.replace('/', ".")), text)
+            }
             ("src", _, Some("lib" | "main")) => sources::read(path, &format!("{}::", parts[1]), text),
             ("src", _, Some(name)) => sources::read(path, &format!("{}::{}", parts[1], name.replace('/', "::")), text),
             _ => return,
@@ -110,7 +113,7 @@ impl Tree {
 
     /// Whether a path of antt goes to one of the crates here.
     fn is_own(&self, path: &str) -> bool {
-        let name = path.strip_prefix("Rattle·").and_then(|rest| rest.split(['·', '.']).next());
+        let name = path.strip_prefix("Rattle.").and_then(|rest| rest.split('.').next());
         name.map_or(false, |name| self.modules.keys().any(|module| module.split(['.', ':']).next() == Some(name)))
     }
 
@@ -121,17 +124,20 @@ impl Tree {
         }
     }
 
-    /// What a path names: `Rattle·a.specs.B` and `Rattle·a·specs.specs.B` a file, or a type with one part more; `a::b` a source.
+    /// What a path names: `Rattle.a.specs.B` and `Rattle.a.proofs.Laws.B` a file, or a type with one part more; `a::b` a source.
     fn place(&self, path: &str) -> Option<Place> {
-        let rest = match path.strip_prefix("Rattle·") {
+        let rest = match path.strip_prefix("Rattle.") {
             Some(rest) => rest,
             None => return self.modules.get(path).copied().map(Place::File),
         };
         let (name, rest) = rest.split_once('.')?;
-        let name = name.trim_end_matches("·specs");
-        let rest = rest.strip_prefix("specs.")?;
+        let rest = match rest.strip_prefix("specs.") {
+            Some(rest) => rest,
+            None if rest.starts_with("proofs.") => rest,
+            None => return None,
+        };
         if let Some(declared) = rest.strip_prefix("declared.") {
-            let declared = declared.trim_end_matches(".the-variants");
+            let declared = declared.trim_end_matches(".TheVariants");
             let (module, own) = declared.rsplit_once('.').unwrap_or(("", declared));
             return self.type_in(&format!("{name}::{}", module.replace('.', "::")), own);
         }
@@ -167,7 +173,7 @@ impl Tree {
 impl Scope {
     /// Brings in a name; of an operator also the parts between its argument places.
     fn bring(&mut self, name: &str, ids: &[Id]) {
-        let parts = name.split('_').filter(|part| !part.is_empty() && *part != name);
+        let parts = name.split('◌').filter(|part| !part.is_empty() && *part != name);
         for word in parts.chain([name]) {
             self.names.entry(word.to_string()).or_default().extend(ids);
         }

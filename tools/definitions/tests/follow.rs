@@ -9,9 +9,9 @@ use danivomel_definitions::tree::Tree;
 use std::path::Path;
 
 const DEFINITIONS: &str = "-- Definitions.
-use Prim.Native.Nat.{ℕ}
-use Rattle·low·specs.specs.declared.Answer.{Answer}
-use Rattle·low·specs.specs.declared.Answer.the-variants as answer
+use Rattle.std.specs.Prelude.{ℕ}
+use Rattle.low.specs.declared.Answer.{Answer}
+use Rattle.low.specs.declared.Answer.TheVariants as answer
 
 -- twice
 -- as much
@@ -32,8 +32,8 @@ pub record Apart : Type 0 where
 ";
 
 const LAWS: &str = "-- Laws.
-use Rattle·low·specs.specs.Definitions as defined
-use mathlib.Core.Path.{_≡_, refl}
+use Rattle.low.specs.Definitions as defined
+use Rattle.std.proofs.Common.{◌≡◌, refl}
 
 pub data Held : Type 0 where
   held : Held
@@ -48,11 +48,11 @@ module _ (given : Held) where
 ";
 
 const SOURCE: &str = "use low::Answer;
-ghost use Rattle·low.specs.Definitions.{told as answered};
+ghost use Rattle.low.specs.Definitions.{told as answered};
 
 // Looks.
 pub fn look(found: u64) -> Answer
-    ensures { λ r. ⌜ r ≡ answered (now found .entry) ⌝ }
+    ensures twice { result ≡ answered found }
 {
     Answer::Nothing
 }
@@ -66,7 +66,8 @@ pub fn other(found: u64) -> u64
 fn small() -> Tree {
     let mut tree = Tree::default();
     tree.add("crates/low/specs/Definitions.antt", DEFINITIONS);
-    tree.add("crates/low/specs/Laws/Laws.antt", LAWS);
+    tree.add("crates/low/proofs/Laws/Laws.antt", LAWS);
+    tree.add("crates/low/proofs/look/Answers.antt", "abbrev pub left : ℕ\nleft = 1\n");
     tree.add("crates/low/src/lib.rt", "// An answer.\npub enum Answer {\n    Nothing,\n    Is(u64),\n}\n");
     tree.add("crates/high/src/lib.rt", SOURCE);
     tree
@@ -78,14 +79,14 @@ fn names(tree: &Tree, reached: &Reached, kind: Kind) -> Vec<String> {
     lines.map(|line| line.split_whitespace().nth(2).unwrap().to_string()).collect()
 }
 
-/// In the crates, `checked` leads to `pick` and `greatestShare`, and to two types.
+/// In the crates, `checked` leads to `pick` and `greatest_share`, and to two types.
 #[test]
 fn checked_share() {
     let root = Path::new(env!("CARGO_MANIFEST_DIR")).join("../..");
     let tree = Tree::read(&root).unwrap();
     let mut reached = Reached::default();
     reached.follow(&tree, &promised(&tree, "`checked` of model/specs/Shares.antt")).unwrap();
-    assert_eq!(names(&tree, &reached, Kind::Definition), ["pick", "greatestShare", "checked"]);
+    assert_eq!(names(&tree, &reached, Kind::Definition), ["pick", "greatest_share", "checked"]);
     assert_eq!(count(&tree, &reached, Kind::Definition), Count { declarations: 3, lines: 9, files: 1 });
     assert_eq!(names(&tree, &reached, Kind::Type), ["Share", "Checked"]);
 }
@@ -109,7 +110,7 @@ fn from_a_law_by_its_statement() {
     let mut reached = Reached::default();
     reached.follow(&tree, &promised(&tree, "the `law` of `nothing`")).unwrap();
     assert_eq!(names(&tree, &reached, Kind::Definition), ["twice", "Found", "told", "Held"]);
-    assert_eq!(faults(&tree, &reached)[1..], ["crates/low/specs/Laws/Laws.antt:5: Held stands in Laws/"]);
+    assert_eq!(faults(&tree, &reached)[1..], ["crates/low/proofs/Laws/Laws.antt:5: Held stands in Laws/"]);
 }
 
 #[test]
@@ -154,9 +155,9 @@ fn what_is_nowhere() {
     );
     tree.add(
         "crates/low/specs/Lost.antt",
-        "use Rattle·low·specs.specs.Definitions.{gone}\n\nabbrev pub lost : ℕ\nlost = gone\n",
+        "use Rattle.low.specs.Definitions.{gone}\n\nabbrev pub lost : ℕ\nlost = gone\n",
     );
     let followed = Reached::default().follow(&tree, &promised(&tree, "`lost`"));
-    let message = "crates/low/specs/Lost.antt: 'Rattle·low·specs.specs.Definitions.gone' is nowhere";
+    let message = "crates/low/specs/Lost.antt: 'Rattle.low.specs.Definitions.gone' is nowhere";
     assert_eq!(followed.unwrap_err(), message);
 }
