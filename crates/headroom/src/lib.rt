@@ -1,5 +1,7 @@
 // Who gets the copies left over: the members with the most headroom, told by a bar. The level is the same for all, so that a higher
 // high is more headroom.
+#![tactic(auto)]
+
 ghost use Rattle.std.specs.Prelude.{◌≡◌, ◌+◌, ◌≤◌, ◌<◌, length};
 ghost use Rattle.model.specs.Levels.{roomier};
 ghost use Rattle.model.specs.Inner.Headroom.{is_ahead, Bar, copy_at};

@@ -1,4 +1,6 @@
 // The checks on the lists of one group, in the order of the specification.
+#![tactic(auto)]
+
 ghost use Rattle.std.specs.Prelude.{◌≡◌, length, true};
 ghost use Rattle.list_checks.specs.Checks.{are_shares, unit_within, unit_ordered, first_failing, sized, amounts_within, refuse_if, check_lists};
 ghost use Rattle.list_checks.specs.Inner.Units.{unit_clear, unit_sound, all_sound};

@@ -1,4 +1,6 @@
 // The planner's types, and what a limit allows.
+#![tactic(auto)]
+
 ghost use Rattle.std.specs.Prelude.{◌≡◌, ◌-◌, ◌*◌, ◌≤◌};
 ghost use Rattle.model.specs.Figures.{limit_within};
 ghost use Rattle.model.specs.Shares.{checked};

@@ -1,4 +1,6 @@
 // Reading bytes: the kind of a byte, and a spot in a text.
+#![tactic(auto)]
+
 ghost use Rattle.std.specs.Prelude.{◌≡◌, ◌+◌, ◌*◌, ◌≤◌, ◌<◌, length, drop};
 ghost use Rattle.text.specs.Kinds.{kind_of};
 ghost use Rattle.text.specs.Parsed.{word, mapped};

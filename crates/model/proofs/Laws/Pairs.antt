@@ -1,6 +1,6 @@
 -- The pair differences: twice they are the distances of every share from every share, and an exchange never raises them. Assumes nothing.
 use Rattle.std.specs.Prelude.{ℕ, zero, suc, ◌+◌, ◌*◌, ◌≤◌, ◌<◌, List, [], ◌∷◌, ◌≡◌, refl, length, get_or, drop}
-use Rattle.std.proofs.Common.{sym, ◌∙◌, arith, le_refl, length-drop, drop_of_length-le, get_or-drop}
+use Rattle.std.proofs.Common.{◌∙◌, arith, le_refl, length-drop, drop_of_length-le, get_or-drop}
 use Rattle.std.proofs.Math.Seq.{drop-cons}
 use Rattle.model.specs.Shares.{sum, sum_of}
 use Rattle.model.specs.Figures.{apart, pairs}

@@ -1,5 +1,5 @@
 -- Every way to hand out the copies left over gives even shares with the same figures. Assumes nothing.
-use Rattle.std.specs.Prelude.{ℕ, ◌+◌, ◌-◌, ◌≤◌, List, ◌≡◌}
+use Rattle.std.specs.Prelude.{ℕ, ◌+◌, ◌≤◌, List, ◌≡◌}
 use Rattle.std.proofs.Common.{sym, ◌∙◌, le_antisymm}
 use Rattle.model.specs.Shares.{Ranges, Within, sum}
 use Rattle.model.specs.Figures.{deviation, spread, pairs, figures_of}
