@@ -51,12 +51,14 @@ fn names(text: &str) -> impl Iterator<Item = String> + '_ {
     parts.filter(|name| !name.is_empty()).map(str::to_string)
 }
 
-/// Adds the names in all files of Rattle and antt below a folder.
+/// Adds the names in all files of Rattle and antt below a folder, but for what rt keeps in out/.
 fn add_names(folder: &Path, found: &mut BTreeSet<String>) {
     for entry in std::fs::read_dir(folder).expect("the folder is read") {
         let path = entry.expect("the entry is read").path();
         if path.is_dir() {
-            add_names(&path, found);
+            if !path.ends_with("out") {
+                add_names(&path, found);
+            }
         } else if path.extension().map_or(false, |end| end == "antt" || end == "rt") {
             found.extend(names(&std::fs::read_to_string(&path).expect("the file is read")));
         }

@@ -180,13 +180,15 @@ impl Scope {
     }
 }
 
-/// The files below a folder, by their paths from the root.
+/// The files below a folder, by their paths from the root; what rt keeps in a crate's out/ is left out.
 fn collect(root: &Path, folder: &str, paths: &mut Vec<String>) -> io::Result<()> {
     for entry in fs::read_dir(root.join(folder))? {
         let entry = entry?;
         let path = format!("{folder}/{}", entry.file_name().to_string_lossy());
         if entry.file_type()?.is_dir() {
-            collect(root, &path, paths)?;
+            if entry.file_name() != "out" {
+                collect(root, &path, paths)?;
+            }
         } else {
             paths.push(path);
         }
