@@ -1,4 +1,6 @@
 // The ranges of a group's members in the table: gathered, and written back.
+#![tactic(auto)]
+
 ghost use Rattle.std.specs.Prelude.{◌≡◌, length};
 ghost use Rattle.member_ranges.specs.Inner.Members.{Listed, MemberRoom, RunningGathered, running_members};
 ghost use Rattle.member_ranges.specs.Tables.{Named, gather, scatter};

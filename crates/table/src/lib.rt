@@ -1,5 +1,6 @@
 // Reading a job text into a table of ranges, settling, reporting and writing over one: thin functions above those on two lists of numbers.
-// A function that holds a table is proved by a walk of its MIR, by hand.
+#![tactic(auto)]
+
 ghost use Rattle.std.specs.Prelude.{◌≡◌, ◌≤◌, min, length};
 ghost use Rattle.model.specs.Shares.{most_units};
 ghost use Rattle.job.specs.Reading.{ReadInto};
