@@ -1,4 +1,6 @@
 // The groups of a job and the marks of its units as one flat list of numbers: its layout is written and read here alone.
+#![tactic(auto)]
+
 ghost use Rattle.std.specs.Prelude.{◌+◌, ◌≤◌, ◌<◌, ◌≡◌, length, set};
 ghost use Rattle.std.proofs.lemmas.List.Edits.{sets};
 ghost use Rattle.groups.specs.Inner.Flat.{most_flat, marks_from, Coded, PairsCoded, limit_code, limit_of, pairs_code, pairs_of, head_of, stored_at, WholeAt};

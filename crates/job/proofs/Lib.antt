@@ -1,5 +1,1 @@
-pub mod Closing
-pub mod Lending
-pub mod Passing
-pub mod Releasing
 pub mod Laws

@@ -1,4 +1,6 @@
 // Reading a job text: the ranges of its units into a table, its groups and the marks of its units into one flat list.
+#![tactic(auto)]
+
 ghost use Rattle.std.specs.Prelude.{◌≡◌, ◌≤◌, ◌++◌, length, take, drop};
 ghost use Rattle.groups.specs.Inner.Flat.{most_flat};
 ghost use Rattle.model.specs.Shares.{most_units};
@@ -30,6 +32,7 @@ fn refused(number: u64) -> Reading
 }
 
 // Reads a whole text: its ranges to the front of lows and highs, its groups to the front of the flat list, its marks behind the room for groups.
+#[tactic(auto, using(crate::proofs::Laws::Scanning::too_long, crate::proofs::Laws::Scanning::scanned_refused))]
 fn scan(text: &[u8], lows: &mut [u64], highs: &mut [u64], flat: &mut [u64]) -> Reading
     requires { (most_units ≤ length lows.old) × (most_units ≤ length highs.old) × (most_flat ≤ length flat.old) }
     ensures { Scanned text.now lows.old highs.old flat.old lows.new highs.new flat.new result }
@@ -59,6 +62,7 @@ fn copy_front(from: &[u64], to: &mut [u64], count: usize)
 }
 
 // Fills a table that is long enough from the front of lists that hold a job's units.
+#[tactic(auto, using(crate::proofs::Laws::Reading::filled_refused, crate::proofs::Laws::Reading::table_short, crate::proofs::Laws::Reading::table_short_highs))]
 fn fill(
     least: &[u64],
     greatest: &[u64],

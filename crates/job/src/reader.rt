@@ -1,5 +1,4 @@
 // The reader: it carries the job text with the spot it has reached, and reads the text line by line.
-// A function that holds a reader is proved by a walk of its MIR, by hand.
 ghost use Rattle.std.specs.Prelude.{◌≡◌, ◌≤◌, length, leb};
 ghost use Rattle.groups.specs.Inner.Flat.{most_flat};
 ghost use Rattle.form.specs.Form.{most_bytes};
@@ -60,6 +59,7 @@ impl<'a> Reader<'a> {
 }
 
 // What the lines of a text come to: the counts, or 10 where there is no unit line.
+#[tactic(auto, unfolding(crate::specs::Inner::Reading::counts_of))]
 fn counted(progress: Progress) -> Reading
     ensures { result ≡ counts_of progress }
 {

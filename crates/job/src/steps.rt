@@ -41,6 +41,7 @@ pub const MOST_GROUPS: usize = 64;
 pub const MOST_MEMBERSHIPS: usize = 4096;
 
 // The refusal of a unit line, 0 where there is none.
+#[tactic(auto, using(model::proofs::Laws::Shares::valid_is_share, model::proofs::Laws::Shares::beyond_no_share), unfolding(crate::specs::Job::unit_verdict))]
 fn unit_verdict(progress: Progress, low: u64, high: u64) -> u64
     ensures { result ≡ unit_verdict progress.units progress.groups (range low high) }
 {
@@ -63,6 +64,7 @@ fn unit_verdict(progress: Progress, low: u64, high: u64) -> u64
 }
 
 // The refusal of a group line by its head and the number of its members, 0 where there is none.
+#[tactic(auto, unfolding(crate::specs::Job::head_verdict))]
 fn head_verdict(progress: Progress, head: Head, count: usize) -> u64
     requires { Bounded progress }
     ensures { result ≡ head_verdict progress.groups progress.memberships head.total head.limits count }
@@ -93,6 +95,7 @@ fn head_verdict(progress: Progress, head: Head, count: usize) -> u64
 }
 
 // Whether no number is met marked, where each is marked when met.
+#[tactic(auto, using(crate::proofs::Laws::Distinct::below_at, crate::proofs::Laws::Distinct::fresh_next))]
 fn fresh_by(members: &[u64], marks: &mut [u64]) -> bool
     requires { AllBelow (length marks.old) members.now }
     ensures { result ≡ fresh_by marks.old members.now }
@@ -109,6 +112,7 @@ fn fresh_by(members: &[u64], marks: &mut [u64]) -> bool
     true
 }
 
+#[tactic(auto, using(crate::proofs::Laws::Distinct::fresh_is_distinct))]
 fn are_distinct(members: &[u64]) -> bool
     requires { AllBelow most_units members.now }
     ensures { result ≡ distinct members.now }
@@ -118,6 +122,7 @@ fn are_distinct(members: &[u64]) -> bool
 }
 
 // The refusal of a group line whose members are in the flat list from a place on, 0 where there is none.
+#[tactic(auto, unfolding(crate::specs::Inner::Placed::group_number))]
 fn group_verdict(progress: Progress, head: Head, members: Members, flat: &[u64], from: usize) -> u64
     requires { Bounded progress × Placed progress head members flat.now from }
     ensures { result ≡ group_number progress head members flat.now from }
@@ -147,6 +152,7 @@ fn refuse(progress: Progress, number: u64) -> TakenLine
 }
 
 // Takes a unit line: its low and high into the table, its mark into the flat list.
+#[tactic(auto, using(crate::proofs::Laws::Verdicts::unit_good))]
 fn take_unit(
     progress: Progress,
     unit: Unit,

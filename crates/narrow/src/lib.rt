@@ -1,2 +1,4 @@
 // Narrowing a group's ranges over its breakpoint table.
+#![tactic(auto)]
+
 pub mod ranges;

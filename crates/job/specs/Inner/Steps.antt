@@ -3,7 +3,7 @@ use Rattle.std.specs.Prelude.{ℕ, ◌≤◌, List, ◌++◌, ◌≡◌, length,
 use Rattle.std.proofs.lemmas.List.Edits.{sets}
 use Rattle.text.specs.Parsed.{mapped, parsed}
 use Rattle.text.specs.Inner.Numbers.{held}
-use Rattle.form.specs.Form.{UnitLine, Line, unit, group, group_as, line}
+use Rattle.form.specs.Form.{UnitLine, unit, group, group_as, line}
 use Rattle.groups.specs.Memberships.{memberships}
 use Rattle.groups.specs.Inner.Flat.{flatten, flat_length, marks_from, marks_in}
 use Rattle.job.specs.Job.{Job, most_groups, most_memberships, LineStep, next, stop, step_on}
