@@ -1,4 +1,6 @@
 // Probes of pinned values on a group's breakpoint table.
+#![tactic(auto)]
+
 pub mod figures;
 pub mod lookups;
 pub mod newton;

@@ -1,3 +1,5 @@
 // Reporting a job text: settled, and what the settling answers written into a buffer.
+#![tactic(auto)]
+
 pub mod calls;
 pub mod program;

@@ -1,4 +1,6 @@
 // Many groups over shared units: what settling means and answers, and the checks ahead of it.
+#![tactic(auto)]
+
 use model::Refusal;
 
 pub mod checks;

@@ -1,5 +1,5 @@
 -- Looking distances up by a turn's terms: the table's last row and a level under their other names. Assumes nothing.
-use Rattle.std.specs.Prelude.{ℕ, suc, ◌≤◌, ◌<◌, List, ◌≡◌}
+use Rattle.std.specs.Prelude.{ℕ, suc, ◌≤◌, ◌<◌, List}
 use Rattle.std.proofs.Common.{sym, subst, arith}
 use Rattle.model.specs.Shares.{greatest_share}
 use Rattle.breakpoints.specs.declared.distances.Distances.{Distances}

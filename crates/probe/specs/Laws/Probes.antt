@@ -1,5 +1,5 @@
 -- What a probe finds in the table: the row below the pinned group's level, and the level. Assumes nothing.
-use Rattle.std.specs.Prelude.{ℕ, suc, ◌+◌, ◌-◌, ◌*◌, ◌≤◌, ◌<◌, List, ◌≡◌, length}
+use Rattle.std.specs.Prelude.{ℕ, suc, ◌+◌, ◌-◌, ◌≤◌, ◌<◌, List, ◌≡◌}
 use Rattle.std.proofs.Math.Decide.{dec_lt, ℕ_discrete}
 use Rattle.std.proofs.Common.{arith}
 use Rattle.model.specs.Shares.{most_units}
@@ -12,7 +12,6 @@ use Rattle.breakpoints.specs.Inner.Spans.{Span}
 use Rattle.breakpoints.specs.Inner.Tables.{SoundWithTotal, Breakpoints, itself}
 use Rattle.breakpoints.specs.Laws.Tables.{small_itself, clamped_small}
 use Rattle.probe.specs.Inner.Pinned.{Pin, Reached}
-use Rattle.breakpoints.specs.Inner.Distances.{MarkedBelow}
 use Rattle.probe.specs.Inner.Pairs.{SpotBelow}
 use Rattle.probe.specs.Laws.Pinned.{pinned_span, grows, level_inside, reached_mark, reached_between}
 use Rattle.probe.specs.Inner.Probes.{pinned_total, Pinnable, Probeable, LastWithin, Divided}

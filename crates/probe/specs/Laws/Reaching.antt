@@ -1,5 +1,5 @@
 -- Which values of a member the others can make up for: only those can be taken, and they form a range. Assumes nothing.
-use Rattle.std.specs.Prelude.{ℕ, ◌*◌, ◌≤◌, ◌<◌, true, false, List, ◌≡◌, length, get_or}
+use Rattle.std.specs.Prelude.{ℕ, ◌≤◌, ◌<◌, true, false, List, ◌≡◌, length, get_or}
 use native.Mathlib.Omega.{arith, by_contra}
 use Rattle.model.specs.Shares.{greatest_share, sum}
 use Rattle.model.specs.Plans.{taken}

@@ -1,5 +1,5 @@
 -- The terms of a turn: what the limits allow as numbers, and the last row of the table. Assumes nothing.
-use Rattle.std.specs.Prelude.{ℕ, ◌+◌, ◌-◌, ◌*◌, ◌/◌, ◌≤◌, ◌<◌, List, ◌↔◌, true, false, ◌≡◌, refl, leb, length}
+use Rattle.std.specs.Prelude.{ℕ, ◌+◌, ◌-◌, ◌*◌, ◌/◌, ◌≤◌, ◌<◌, List, ◌↔◌, true, false, ◌≡◌, refl, leb}
 use Rattle.std.proofs.Common.{sym, ◌∙◌, mul-le-mul, le-div_iff_mul-le, arith, le-leb}
 use Rattle.std.proofs.Math.Decide.{dec_le}
 use Rattle.std.proofs.lemmas.Bool.{lt-leb}

@@ -1,5 +1,5 @@
 -- What the functions of settling ask of their lists. Assumes nothing.
-use Rattle.std.specs.Prelude.{ℕ, ◌+◌, ◌≤◌, ◌≡◌, length}
+use Rattle.std.specs.Prelude.{ℕ, ◌+◌, ◌≤◌, length}
 use mathlib.Core.List.{List, Memᴰ}
 use Rattle.model.specs.Shares.{most_units}
 use Rattle.model.specs.Groups.{Group}
