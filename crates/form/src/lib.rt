@@ -1,4 +1,6 @@
 // Reading the lines of a job text.
+#![tactic(auto)]
+
 ghost use Rattle.std.specs.Prelude.{◌≡◌, ◌≤◌, ◌&&◌, length, drop, set};
 ghost use Rattle.text.specs.Parsed.{mapped};
 ghost use Rattle.form.specs.Form.{most_bytes};

@@ -4,7 +4,7 @@ use Rattle.form.specs.Form.{most_bytes}
 use Rattle.model.specs.Groups.{Group}
 use Rattle.works.specs.Consistency.{Apart}
 use Rattle.works.specs.Resting.{AtRest}
-use Rattle.works.specs.Called.{Cleared, first_of, groups, count, opening}
+use Rattle.works.specs.Called.{Cleared, first_of, count}
 use Rattle.member_ranges.specs.Tables.{Table, low_of, high_of, Inside}
 use Rattle.report.specs.Calls.{Reported, report_text}
 use Rattle.report.specs.Evenness.{EvenLines}

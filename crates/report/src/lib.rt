@@ -1,4 +1,6 @@
 // The report of a settled job.
+#![tactic(auto)]
+
 use model::Refusal;
 
 pub mod answers;

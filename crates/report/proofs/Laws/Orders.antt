@@ -28,7 +28,7 @@ use Rattle.report.specs.Promises.{outcome, left}
 use Rattle.report.proofs.Laws.Promises.{reports, same_table_lem, written_settled, written_report, written_promised}
 use Rattle.report.specs.Reports.{line_of, report_of}
 use Rattle.report.specs.declared.Reporting.TheVariants.{Written, NoPlan}
-use Rattle.report.specs.Orders.{report_passes, ReportedWithoutPlan, report, SameLines, SameReports}
+use Rattle.report.specs.Orders.{report_passes, report, SameLines, SameReports}
 
 module _ {text lows highs : List ℕ} {scratch : ℕ} (cleared : Cleared text lows highs scratch) (buffer : List ℕ)
     (long : most_bytes ≤ length buffer) where

@@ -1,0 +1,27 @@
+-- The longest refusal's line fits. Assumes nothing.
+use native.Mathlib.Omega.{arith}
+use Rattle.print.specs.Inner.Written.{Room}
+use Rattle.print.specs.Laws.Written.{from_start}
+use Rattle.report.specs.Lines.{refusal_line}
+use Rattle.report.proofs.Laws.Lengths.{refusal_length}
+use Rattle.report.proofs.lines.refusal_line.Goals as goal
+use Rattle.report.proofs.lines.refusal_line.Goals.{Start}
+
+room : (start : Start) → Room start.args.buffer.now 0 (refusal_line start.args.number start.args.place)
+room start =
+    record {
+      fits =
+          omega (
+            arith,
+            start.requires,
+            refusal_length start.args.number start.args.place start.ranges.number.fits start.ranges.place.fits,
+          );
+    }
+
+pub put_line-requires : goal.put_line-requires
+put_line-requires c = room (goal.at.put_line-requires c).Start
+
+pub returns : goal.returns
+returns c =
+    let (counted, holds) = from_start (room (goal.at.returns c).Start) c.put_line.ensures in
+    record { value = counted; buffer_after = holds }
