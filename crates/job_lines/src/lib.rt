@@ -1,4 +1,6 @@
 // The lines of a job text, written into a buffer.
+#![tactic(auto)]
+
 ghost use Rattle.std.specs.Prelude.{◌+◌, ◌≤◌, suc, ◌≡◌, length};
 ghost use mathlib.Core.List.{flatten, ◌++◌, map};
 ghost use Rattle.groups.specs.Inner.Flat.{group_in, groups_in, Holds};
@@ -16,6 +18,7 @@ use model::{Limit, Limits, RUNNING};
 use print::{put_form, put_item, put_line, put_number, put_word};
 
 // Writes a unit's line, its range or the word shut, and hands back the index after it.
+#[tactic(auto, using(crate::specs::Laws::Pieces::line_runs, crate::specs::Laws::Pieces::line_shut))]
 fn put_range_line(buffer: &mut [u8], at: usize, mark: u64, low: u64, high: u64) -> usize
     requires { Room buffer.old at (range_line mark low high) }
     ensures { Wrote (range_line mark low high) buffer.old at buffer.new result }
@@ -48,6 +51,7 @@ pub fn put_range_lines(
 }
 
 // Writes a limit, a number or the word any, and hands back the index after it.
+#[tactic(auto, unfolding(form::specs::Form::print_limit))]
 fn put_limit(buffer: &mut [u8], at: usize, limit: Limit) -> usize
     requires { Room buffer.old at (print_limit limit) }
     ensures { Wrote (print_limit limit) buffer.old at buffer.new result }
@@ -68,6 +72,7 @@ fn put_limited(buffer: &mut [u8], at: usize, opening: &[u8], limit: Limit) -> us
 }
 
 // Writes a pairs limit where it was there, and hands back the index after it.
+#[tactic(auto, unfolding(form::specs::Form::print_pairs))]
 fn put_pairs(buffer: &mut [u8], at: usize, there: bool, limit: Limit) -> usize
     requires { Room buffer.old at (print_pairs (pairs_written there limit)) }
     ensures { Wrote (print_pairs (pairs_written there limit)) buffer.old at buffer.new result }

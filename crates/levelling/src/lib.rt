@@ -1,4 +1,6 @@
 // Levelling one group.
+#![tactic(auto)]
+
 ghost use Rattle.std.specs.Prelude.{◌≡◌, ◌+◌, ◌^◌, ◌≤◌, ◌<◌, ◌++◌, length, drop};
 ghost use Rattle.model.specs.Levels.{level, levelled};
 ghost use Rattle.model.specs.Running.{Marked, marked_figures};

@@ -164,3 +164,12 @@ module _ {text lows₀ highs₀ flat₀ lows highs flat : List ℕ} {at : ℕ} {
   pub scanned_stop : (lows' highs' flat' : List ℕ) (r : Refusal) → at < length text → step_on g.job (drop at text) (line (drop at text)) ≡ stop r
       → Scanned text lows₀ highs₀ flat₀ lows' highs' flat' (Refused r)
   scanned_stop lows' highs' flat' r h a = scanned_refused _ _ _ _ _ _ _ r (line_refused _ short r (off_line g r h a))
+
+-- a moment of the reading: the spot before a line, and what was read up to it
+pub record Moment (text lows₀ highs₀ flat₀ : List ℕ) : Type 0 where
+  pub at : ℕ
+  pub progress : Progress
+  pub lows : List ℕ
+  pub highs : List ℕ
+  pub flat : List ℕ
+  pub going : Going text lows₀ highs₀ flat₀ lows highs flat at progress

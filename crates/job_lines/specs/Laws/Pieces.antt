@@ -1,7 +1,7 @@
 -- The lines of a job's text in the pieces that are written. Assumes nothing.
 use Rattle.std.specs.Prelude.{ℕ, suc, ◌≡◌, refl}
 use mathlib.Core.List.{List, [], ◌∷◌, ◌++◌, map, flatten, append_assoc, append-nil}
-use Rattle.std.proofs.Common.{sym, ap, ◌∙◌, eq-eqb, ne_eqb}
+use Rattle.std.proofs.Common.{sym, ap, eq-eqb, ne_eqb}
 use Rattle.form.specs.Form.{unit_ending, group_opening, deviation_opening, spread_opening, members_opening, group_ending}
 use Rattle.form.specs.Form.{Heading, print_limit, print_pairs, print_members, print_unit}
 use Rattle.job.specs.Job.{Job}

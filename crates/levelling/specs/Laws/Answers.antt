@@ -2,7 +2,6 @@
 use Rattle.std.specs.Prelude.{ℕ, ◌≤◌, Bool, true, false, List, ◌↔◌, ◌⊎◌, ◌≡◌, refl, leb}
 use Rattle.std.proofs.Common.{inl, inr, arith}
 use Rattle.model.specs.Shares.{greatest_total}
-use Rattle.model.specs.Levels.{level}
 use Rattle.model.specs.Plans.{has_shares}
 use Rattle.model.proofs.Laws.Tests.{clash}
 use Rattle.model.proofs.Laws.Turns.{shares_found, found_shares, no_shares_lem}
