@@ -1,9 +1,9 @@
 -- The distances of values from the shares at a level, and the pair differences there, from level to level. Assumes nothing.
-use Rattle.std.specs.Prelude.{ℕ, suc, ◌+◌, ◌-◌, ◌*◌, ◌≤◌, ◌<◌, List, ◌≡◌, refl, length}
-use Rattle.std.proofs.Common.{sym, ap, ◌∙◌}
+use Rattle.std.specs.Prelude.{ℕ, ◌+◌, ◌-◌, ◌*◌, ◌≤◌, ◌<◌, List, ◌≡◌, length}
+use Rattle.std.proofs.Common.{ap}
 use Rattle.std.proofs.Math.Decide.{dec_le, dec_lt}
-use Rattle.std.proofs.Math.Nat.{le_dest, le_of_mul-le-mul_left}
-use native.Mathlib.Omega.{arith, by_contra}
+use Rattle.std.proofs.Math.Nat.{le_of_mul-le-mul_left}
+use native.Mathlib.Omega.{arith}
 use Rattle.model.specs.Shares.{Ranges, sum_of}
 use Rattle.model.specs.Figures.{apart, pairs}
 use Rattle.model.specs.Levels.{clamp, clamped}
@@ -12,7 +12,7 @@ use Rattle.breakpoints.specs.Inner.Distances.{LowsPassed}
 use Rattle.breakpoints.specs.Inner.Spans.{Span}
 use Rattle.breakpoints.specs.Inner.Tables.{itself}
 use Rattle.breakpoints.specs.Laws.Moved.{pairs_moved}
-use Rattle.breakpoints.specs.Laws.Tables.{rise, rises_more, total_risen, total_itself}
+use Rattle.breakpoints.specs.Laws.Tables.{rise, rises_more, total_itself}
 
 -- a share at level w, from a value at or above w: what lies past the value are lows
 up_part : (l h w x : ℕ) → l ≤ h → w ≤ x → apart x (clamp l h w) + clamp l h w ≡ x + 2 * (l - x)

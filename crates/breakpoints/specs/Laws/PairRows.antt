@@ -1,6 +1,6 @@
 -- The rows of a table where pairs are limited: the distances at any level come of the row below it. Assumes nothing.
-use Rattle.std.specs.Prelude.{ℕ, zero, suc, ◌+◌, ◌-◌, ◌*◌, ◌≤◌, ◌<◌, max, List, [], ◌∷◌, ◌≡◌, length}
-use Rattle.std.proofs.Common.{sym, ap, subst, ◌∙◌, mul-le-mul, arith}
+use Rattle.std.specs.Prelude.{ℕ, suc, ◌+◌, ◌-◌, ◌*◌, ◌≤◌, ◌<◌, max, List, [], ◌∷◌, ◌≡◌, length}
+use Rattle.std.proofs.Common.{sym, ap, ◌∙◌, mul-le-mul, arith}
 use Rattle.std.proofs.Math.Decide.{ℕ_discrete}
 use Rattle.model.specs.Inner.Orders.{Rearranged}
 use Rattle.model.specs.Shares.{Ranges, greatest_share, greatest_total, most_units, sum, sum_of}
@@ -12,8 +12,8 @@ use Rattle.breakpoints.specs.declared.distances.Distances.{Distances}
 use Rattle.breakpoints.specs.declared.rows.PairRow.{PairRow}
 use Rattle.breakpoints.specs.declared.rows.Row.{Row}
 use Rattle.breakpoints.specs.Inner.Distances.{most_pairs, PairSums, LowsPassed, Paired, DistancesAt, DistancesMoved, DistancesMovable, MarkedBelow}
-use Rattle.breakpoints.specs.Inner.Rows.{row_at, pair_row_at, last_row}
-use Rattle.breakpoints.specs.Inner.Spans.{Parted, Span}
+use Rattle.breakpoints.specs.Inner.Rows.{row_at, last_row}
+use Rattle.breakpoints.specs.Inner.Spans.{Parted}
 use Rattle.breakpoints.specs.Inner.Tables.{Sums, SpanTo, Breakpoints, itself}
 use Rattle.breakpoints.specs.Laws.Distances.{far_from, span_within, passed_within, far_risen, pairs_risen}
 use Rattle.breakpoints.specs.Laws.Spans.{rearranged_sum}
