@@ -1,4 +1,6 @@
 // Writing a text into a buffer: words and numbers, one after another.
+#![tactic(auto)]
+
 ghost use Rattle.std.specs.Prelude.{◌+◌, ◌<◌, [], ◌∷◌};
 ghost use Rattle.text.specs.Numbers.{print_number};
 ghost use Rattle.print.specs.Items.{item, items, form, printed_line};
