@@ -1,4 +1,6 @@
 // Levelling and narrowing one group on lists, checks first.
+#![tactic(auto)]
+
 ghost use Rattle.std.specs.Prelude.{◌≡◌, length};
 ghost use Rattle.model.specs.Levels.{levelled};
 ghost use Rattle.model.specs.Running.{marked_lows, marked_highs};

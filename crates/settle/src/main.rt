@@ -1,14 +1,28 @@
 // Reads a job from standard input, and writes its report or the refusal's line to standard output. Where a read or the write
 // fails, it writes one line to standard error.
+#![tactic(auto)]
+
 use console::{Input, job_text, read_input, write_output};
 use reporting::program::print_job;
 
-fn main() {
+fn main(rt: HostRuntime) {
+    let mut errors = rt.stderr();
     let mut text = job_text();
-    let Input::Read(count) = read_input(&mut text, b"settle: standard input") else {
+    let read = read_input(
+        &mut rt.stdin(),
+        &mut errors,
+        &mut text,
+        b"settle: standard input",
+    );
+    let Input::Read(count) = read else {
         return;
     };
-    let mut buffer = io::large_buffer();
+    let mut buffer = [0u8; 65536];
     let length = print_job(&text[..count], &mut buffer);
-    write_output(&buffer[..length], b"settle: standard output");
+    write_output(
+        &mut rt.stdout(),
+        &mut errors,
+        &buffer[..length],
+        b"settle: standard output",
+    );
 }

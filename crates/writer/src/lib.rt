@@ -1,4 +1,6 @@
 // A job and its table written as a job text.
+#![tactic(auto)]
+
 use model::Refusal;
 
 pub mod calls;
