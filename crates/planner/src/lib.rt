@@ -1,4 +1,6 @@
 // The planner's calls for C and Rust, on numbers and slices; include/danivomel.h documents them.
+#![tactic(auto)]
+
 ghost use Rattle.std.specs.Prelude.{◌≡◌, length};
 ghost use Rattle.model.specs.Levels.{levelled};
 ghost use Rattle.model.specs.Running.{marked_lows, marked_highs};

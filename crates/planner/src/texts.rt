@@ -1,5 +1,4 @@
 // The calls on a job text and a table of ranges, for C and Rust.
-// Each holds a table, and is proved by a walk of its MIR, by hand.
 ghost use Rattle.std.specs.Prelude.{◌≡◌, length};
 ghost use Rattle.job.specs.Reading.{reading_of, read_table, lows_after, highs_after};
 ghost use Rattle.works.specs.Calls.{settle_text};
