@@ -49,10 +49,10 @@ fn limit_code(limit: Limit) -> u64
 fn limit_of(code: u64) -> Limit
     ensures { result ≡ limit_of code }
 {
-    if code == 0 {
-        return Limit::Any;
+    match code {
+        0 => Limit::Any,
+        _ => Limit::AtMost(code - 1),
     }
-    Limit::AtMost(code - 1)
 }
 
 // The number that a pairs limit is stored as: 0 where it was not there, 1 for any, else two more than the limit.
@@ -60,23 +60,21 @@ fn pairs_code(there: bool, limit: Limit) -> u64
     requires { PairsCoded limit }
     ensures { result ≡ pairs_code there limit }
 {
-    if !there {
-        return 0;
-    }
-    limit_code(limit) + 1
+    if there { limit_code(limit) + 1 } else { 0 }
 }
 
 // The pairs limit that a number stands for: any where it was not there.
 fn pairs_of(code: u64) -> Limit
     ensures { result ≡ pairs_of code }
 {
-    if code == 0 {
-        return Limit::Any;
+    match code {
+        0 => Limit::Any,
+        _ => limit_of(code - 1),
     }
-    limit_of(code - 1)
 }
 
 // Writes a group's head at an index, in front of its members.
+#[tactic(auto, using(model::proofs::Laws::Writing::part_written))]
 pub fn put_group(
     flat: &mut [u64],
     at: usize,
@@ -88,17 +86,13 @@ pub fn put_group(
     requires { (at + 5 ≤ length flat.old) × Coded limits.deviation × Coded limits.spread × PairsCoded limits.pairs }
     ensures { flat.new ≡ sets flat.old at (head_of total limits pairs_there count) }
 {
-    let deviation = limits.deviation;
-    let spread = limits.spread;
-    let pairs = limits.pairs;
-    let first = limit_code(deviation);
-    let second = limit_code(spread);
-    let third = pairs_code(pairs_there, pairs);
-    flat[at] = total;
-    flat[at + 1] = first;
-    flat[at + 2] = second;
-    flat[at + 3] = third;
-    flat[at + 4] = count as u64;
+    flat[at..at + HEAD].copy_from_slice(&[
+        total,
+        limit_code(limits.deviation),
+        limit_code(limits.spread),
+        pairs_code(pairs_there, limits.pairs),
+        count as u64,
+    ]);
 }
 
 // The group at an index.
@@ -106,6 +100,7 @@ pub fn group_at(flat: &[u64], at: usize) -> Stored
     requires { WholeAt flat.now at }
     ensures { result ≡ stored_at flat.now at }
 {
+    // Read one by one: a pattern for five numbers needs a branch for a list that is too short.
     let code = flat[at + 3];
     let limits = Limits {
         deviation: limit_of(flat[at + 1]),

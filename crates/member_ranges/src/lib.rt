@@ -15,10 +15,8 @@ pub fn gather(entries: &[u64], members: &[u64], out: &mut [u64])
     requires out_len { length out.old ≡ length members.now }
     ensures { out.new ≡ gather entries.now members.now }
 {
-    let mut k: usize = 0;
-    while k < members.len() {
-        out[k] = entries[members[k] as usize];
-        k += 1;
+    for (k, member) in members.iter().enumerate() {
+        out[k] = entries[*member as usize];
     }
 }
 
@@ -36,15 +34,13 @@ pub fn gather_running(
     ensures { RunningGathered members.now marks.now lows.now highs.now member_lows.new member_highs.new result }
 {
     let mut count: usize = 0;
-    let mut k: usize = 0;
-    while k < members.len() {
-        let unit = members[k] as usize;
+    for member in members {
+        let unit = *member as usize;
         if marks[unit] == RUNNING {
             member_lows[count] = lows[unit];
             member_highs[count] = highs[unit];
             count += 1;
         }
-        k += 1;
     }
     count
 }
@@ -64,14 +60,12 @@ pub fn scatter_running(
     ensures highs_after { highs.new ≡ scatter highs.old (running_members marks.now members.now) member_highs.now }
 {
     let mut count: usize = 0;
-    let mut k: usize = 0;
-    while k < members.len() {
-        let unit = members[k] as usize;
+    for member in members {
+        let unit = *member as usize;
         if marks[unit] == RUNNING {
             lows[unit] = member_lows[count];
             highs[unit] = member_highs[count];
             count += 1;
         }
-        k += 1;
     }
 }

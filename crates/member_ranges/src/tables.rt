@@ -3,20 +3,15 @@ ghost use Rattle.std.specs.Prelude.{◌+◌, ◌≤◌, ◌++◌, ◌≡◌, len
 ghost use Rattle.model.specs.Sound.{SoundRanges};
 ghost use Rattle.member_ranges.specs.Tables.{widths};
 
-use model::lists::copy;
+use model::shares::sum_of;
 
 // The sum of high − low.
+#[tactic(auto, using(crate::specs::Laws::Inside::widths_sums, model::proofs::Laws::Sound::lows_small, model::proofs::Laws::Sound::highs_small))]
 pub fn width_of(lows: &[u64], highs: &[u64]) -> u64
     requires { SoundRanges lows.now highs.now }
     ensures { result ≡ widths lows.now highs.now }
 {
-    let mut width: u64 = 0;
-    let mut i: usize = 0;
-    while i < lows.len() {
-        width += highs[i] - lows[i];
-        i += 1;
-    }
-    width
+    sum_of(highs) - sum_of(lows)
 }
 
 // Writes a table's lows and then its highs over the first numbers of a list.
@@ -26,8 +21,8 @@ pub fn save(lows: &[u64], highs: &[u64], scratch: &mut [u64])
 {
     let middle = lows.len();
     let end = middle + highs.len();
-    copy(lows, &mut scratch[..middle]);
-    copy(highs, &mut scratch[middle..end]);
+    scratch[..middle].copy_from_slice(lows);
+    scratch[middle..end].copy_from_slice(highs);
 }
 
 // Writes the first numbers of a list over a table's lows, and the next ones over its highs.
@@ -38,6 +33,6 @@ pub fn restore(scratch: &[u64], lows: &mut [u64], highs: &mut [u64])
 {
     let middle = lows.len();
     let end = middle + highs.len();
-    copy(&scratch[..middle], lows);
-    copy(&scratch[middle..end], highs);
+    lows.copy_from_slice(&scratch[..middle]);
+    highs.copy_from_slice(&scratch[middle..end]);
 }

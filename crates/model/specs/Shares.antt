@@ -1,7 +1,6 @@
 -- Shares, ranges and totals. Assumes nothing.
-use Rattle.std.specs.Prelude.{ℕ, ◌+◌, ◌≤◌, Bool, true, false, List, [], ◌∷◌, leb}
-use Rattle.model.specs.declared.Checked.{Checked}
-use Rattle.model.specs.declared.Checked.TheVariants.{Valid, Beyond}
+use Rattle.std.specs.Prelude.{ℕ, ◌+◌, ◌≤◌, Bool, true, false, List, [], ◌∷◌, leb, Option, Some, None}
+use Rattle.model.specs.declared.Share.{Share}
 
 -- one of two values by a test
 abbrev pub pick {ℓ} : {A : Type ℓ} → Bool → A → A → A
@@ -20,8 +19,8 @@ greatest_total = 256_000_000
 abbrev pub most_units : ℕ
 most_units = 256
 
-abbrev pub checked : ℕ → Checked
-checked v = pick (leb v greatest_share) (Valid (record { copies = v })) Beyond
+abbrev pub checked : ℕ → Option Share
+checked v = pick (leb v greatest_share) (Some (record { copies = v })) None
 
 -- 01: ranges with low at most high, every high a share
 pub data Ranges : List ℕ → List ℕ → Type 0 where

@@ -14,10 +14,7 @@ pub fn sorted_pairs(xs: &[u64]) -> u64
     let mut pairs: u64 = 0;
     let mut sum: u64 = 0;
     let mut later: u64 = 0;
-    let mut i = xs.len();
-    while 0 < i {
-        i -= 1;
-        let x = xs[i];
+    for x in xs.iter().rev() {
         pairs += sum - later * x;
         sum += x;
         later += 1;

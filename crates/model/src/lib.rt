@@ -39,25 +39,19 @@ pub struct Share {
     copies: u64,
 }
 
-// What the constructor of a share answers.
-#[derive(Clone, Copy)]
-pub enum Checked {
-    Valid(Share),
-    Beyond,
-}
-
 impl Share {
     pub const LEAST: u64 = 0;
 
     pub const GREATEST: u64 = 1_000_000;
 
-    pub fn new(copies: u64) -> Checked
+    // A share of so many copies, none where that is no share.
+    pub fn new(copies: u64) -> Option<Share>
         ensures { result ≡ checked copies }
     {
         if copies <= Share::GREATEST {
-            return Checked::Valid(Share { copies });
+            return Some(Share { copies });
         }
-        Checked::Beyond
+        None
     }
 
     pub fn copies(self) -> u64

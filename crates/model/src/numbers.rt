@@ -6,8 +6,5 @@ ghost use Rattle.model.specs.Figures.{apart};
 pub fn apart(a: u64, b: u64) -> u64
     ensures { result ≡ apart a b }
 {
-    if a <= b {
-        return b - a;
-    }
-    a - b
+    a.abs_diff(b)
 }

@@ -9,33 +9,21 @@ use crate::RUNNING;
 fn count_of(mark: u64) -> usize
     ensures { result ≡ pick (runs mark) 1 0 }
 {
-    if mark != RUNNING {
-        return 0;
-    }
-    1
+    usize::from(mark == RUNNING)
 }
 
 // A running member's number, 0 for a shut one.
 pub fn if_running(mark: u64, number: u64) -> u64
     ensures { result ≡ pick (runs mark) number 0 }
 {
-    if mark == RUNNING {
-        return number;
-    }
-    0
+    if mark == RUNNING { number } else { 0 }
 }
 
 // How many members are running.
 pub fn running_count(marks: &[u64]) -> usize
     ensures { result ≡ length (running marks.now marks.now) }
 {
-    let mut count: usize = 0;
-    let mut i: usize = 0;
-    while i < marks.len() {
-        count += count_of(marks[i]);
-        i += 1;
-    }
-    count
+    marks.iter().filter(|mark| **mark == RUNNING).count()
 }
 
 // Moves the running members' numbers to the front of a list of all members', and hands back how many they are.
@@ -45,12 +33,10 @@ pub fn pack(marks: &[u64], numbers: &mut [u64]) -> usize
     ensures numbers_after { take result numbers.new ≡ running marks.now numbers.old }
 {
     let mut count: usize = 0;
-    let mut i: usize = 0;
-    while i < marks.len() {
+    for (i, mark) in marks.iter().enumerate() {
         // A shut member's number is written over by the next running one's.
         numbers[count] = numbers[i];
-        count += count_of(marks[i]);
-        i += 1;
+        count += count_of(*mark);
     }
     count
 }
@@ -62,10 +48,8 @@ pub fn unpack(marks: &[u64], numbers: &mut [u64], count: usize)
     ensures { numbers.new ≡ restored marks.now (take count numbers.old) }
 {
     let mut left = count;
-    let mut i = marks.len();
-    while 0 < i {
-        i -= 1;
-        left -= count_of(marks[i]);
-        numbers[i] = if_running(marks[i], numbers[left]);
+    for (i, mark) in marks.iter().enumerate().rev() {
+        left -= count_of(*mark);
+        numbers[i] = if_running(*mark, numbers[left]);
     }
 }

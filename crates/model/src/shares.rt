@@ -9,22 +9,14 @@ pub fn sum_of(xs: &[u64]) -> u64
     requires { sum xs.now ≤ greatest_total }
     ensures { result ≡ sum xs.now }
 {
-    let mut total: u64 = 0;
-    let mut i: usize = 0;
-    while i < xs.len() {
-        total += xs[i];
-        i += 1;
-    }
-    total
+    xs.iter().sum()
 }
 
 // Whether shares with the total exist.
+#[tactic(auto, using(crate::proofs::Laws::Sound::lows_small, crate::proofs::Laws::Sound::highs_small))]
 pub fn has_shares(lows: &[u64], highs: &[u64], total: u64) -> bool
     requires { SoundRanges lows.now highs.now }
     ensures { result ≡ has_shares lows.now highs.now total }
 {
-    if total < sum_of(lows) {
-        return false;
-    }
-    total <= sum_of(highs)
+    sum_of(lows) <= total && total <= sum_of(highs)
 }

@@ -1,7 +1,11 @@
 -- General facts on lists of shares: ranges by index, and sums after one share is replaced. Assumes nothing.
-use Rattle.std.specs.Prelude.{ℕ, zero, suc, ◌+◌, ◌≤◌, ◌<◌, List, [], ◌∷◌, ◌≡◌, refl, length, get_or, set}
-use Rattle.std.proofs.Common.{ap, le_refl, le_of_suc-le-suc, arith}
+use Rattle.std.specs.Prelude.{ℕ, zero, suc, ◌+◌, ◌≤◌, ◌<◌, List, [], ◌∷◌, ◌++◌, ◌≡◌, refl, length, get_or, set, take}
+use Rattle.std.proofs.Common.{ap, sym, ◌∙◌, le_refl, le_of_suc-le-suc, arith, length-append, get_or-take, take-take}
+use Rattle.std.proofs.lemmas.List.{get_or_push}
 use Rattle.std.proofs.Math.Nat.{suc_inj}
+use Rattle.std.proofs.Math.Seq.{take-append_seam}
+use Rattle.std.specs.List.{sum_by}
+use Rattle.std.proofs.lemmas.List.Recursion.{is_sum_by}
 use Rattle.model.specs.Shares.{Ranges, Within, greatest_share, sum, sum_of}
 
 -- shares within ranges are as many as the lows and the highs
@@ -66,6 +70,18 @@ ranges_of (l ∷ ls) (h ∷ hs) a f =
 ranges_of [] (h ∷ hs) a f = absurd (omega arith)
 ranges_of (l ∷ ls) [] a f = absurd (omega arith)
 
+-- of a list that is passed from its end the first numbers are left, and the last of these is passed next
+pub from_end : (xs rest less : List ℕ) (x : ℕ) → rest ≡ take (length rest) xs → rest ≡ less ++ (x ∷ [])
+    → (length rest ≡ suc (length less)) × (x ≡ get_or xs (length less) 0) × (less ≡ take (length less) xs)
+from_end xs rest less x first is =
+    let more : length rest ≡ suc (length less) = omega (arith, ap length is, length-append less (x ∷ [])) in
+    let all : less ++ (x ∷ []) ≡ take (suc (length less)) xs = sym is ∙ first ∙ ap (λ (n : ℕ). take n xs) more in (
+      more,
+      sym (get_or_push less x 0 (length less) refl) ∙ ap (λ (l : List ℕ). get_or l (length less) 0) all
+          ∙ get_or-take (suc (length less)) xs (length less) 0 (omega arith),
+      sym (take-append_seam less (x ∷ [])) ∙ ap (take (length less)) all ∙ take-take (length less) (suc (length less)) xs (omega arith),
+    )
+
 -- a sum over shares changes by what one replaced share changes it
 pub sum_of_set : (f : ℕ → ℕ) (xs : List ℕ) (i y : ℕ) → i < length xs → sum_of f (set xs i y) + f (get_or xs i 0) ≡ sum_of f xs + f y
 unfolding sum_of
@@ -78,6 +94,11 @@ pub sum_sum_of : (xs : List ℕ) → sum xs ≡ sum_of (λ x. x) xs
 unfolding sum sum_of
 sum_sum_of [] = refl
 sum_sum_of (x ∷ xs) = ap (λ (n : ℕ). x + n) (sum_sum_of xs)
+
+-- and the library's sum
+pub sum_is : (xs : List ℕ) → sum xs ≡ sum_by (λ x. x) xs
+unfolding sum
+sum_is = is_sum_by sum (λ x. x) refl (λ _ _. refl)
 
 -- the total changes by what one replaced share changes it
 pub sum_set : (xs : List ℕ) (i y : ℕ) → i < length xs → sum (set xs i y) + get_or xs i 0 ≡ sum xs + y

@@ -2,6 +2,9 @@
 use Rattle.std.specs.Prelude.{ℕ, zero, suc, ◌+◌, ◌-◌, ◌/◌, ◌≤◌, min, Bool, true, false, List, [], ◌∷◌, ◌≡◌, refl, leb, ltb, length, get_or}
 use Rattle.std.proofs.Common.{sym, ap, ◌∙◌, arith, le-ltb, eqb-true}
 use Rattle.std.proofs.Math.Nat.{suc_inj}
+use Rattle.std.specs.List.{count_by}
+use Rattle.std.specs.Prelude.{cond}
+use Rattle.std.proofs.lemmas.List.Recursion.{is_count_by}
 use Rattle.model.specs.Shares.{greatest_share, Ranges, Within, sum, sum_of}
 use Rattle.model.specs.Levels.{clamp, clamped, total_at, level_below, level, growth, remainder, roomier, by_headroom, levelled}
 use Rattle.model.specs.Ways.{topped, evened}
@@ -72,6 +75,15 @@ running_few (m ∷ ms) (x ∷ xs) = by (runs m) (running_few ms xs)
     by : (b : Bool) → length (running ms xs) ≤ length xs → length {A = ℕ} (elim b [ true ↦ x ∷ running ms xs | false ↦ running ms xs ]) ≤ suc (length xs)
     by true rest = omega arith
     by false rest = omega arith
+
+-- as many run as there are marks of a running member
+pub running_is : (ms : List ℕ) → length (running ms ms) ≡ count_by runs ms
+unfolding running
+running_is = is_count_by (λ ms. length (running ms ms)) runs refl (λ m ms. by (runs m) m (running ms ms))
+  where
+    by : (b : Bool) (m : ℕ) (rest : List ℕ) → length {A = ℕ} (elim b [ true ↦ m ∷ rest | false ↦ rest ]) ≡ cond b (1 + length rest) (length rest)
+    by true m rest = omega arith
+    by false m rest = refl
 
 -- where as many run as there are members, nobody is shut
 pub nobody_shut : (ms : List ℕ) → length (running ms ms) ≡ length ms → (i : ℕ) → get_or ms i 0 ≡ 0

@@ -1,7 +1,10 @@
--- Loops that write the first numbers of a list, one after another. Assumes nothing.
-use Rattle.std.specs.Prelude.{ℕ, zero, suc, ◌+◌, ◌<◌, List, [], ◌∷◌, ◌++◌, ◌≡◌, refl, length, get_or, set, take, drop}
-use Rattle.std.proofs.Common.{append-nil, ap, le_of_suc-le-suc, add-one, arith, length-set, drop_of_length-le}
+-- Numbers written over a list: the first ones one after another by a loop, or a part as a whole. Assumes nothing.
+use Rattle.std.specs.Prelude.{ℕ, zero, suc, ◌+◌, ◌≤◌, ◌<◌, List, [], ◌∷◌, ◌++◌, ◌≡◌, refl, length, get_or, set, take, drop}
+use borrow.Rule.Slice.PartMut.{put_mid}
+use Rattle.std.proofs.Common.{append-nil, append_assoc, sym, ◌∙◌, ap, le_of_suc-le-suc, add-one, arith, length-set, drop_of_length-le}
 use Rattle.std.proofs.Math.Seq.{take-length}
+use Rattle.std.proofs.lemmas.List.Edits.{sets, sets-eq, paste_all}
+use Rattle.std.proofs.lemmas.Slice.{put_mid-paste}
 
 -- the first k of the values are written over the first numbers of a list
 pub record Filled (values was out : List ℕ) (k : ℕ) : Type 0 where
@@ -33,3 +36,12 @@ filled_more {values} {was} {out} {k} held p q v e = record {
 pub filled_all : {values was out : List ℕ} {k : ℕ} → Filled values was out k → length was ≡ length values → k ≡ length values → out ≡ values
 filled_all {values} {was} held sizes end =
     rw (held.written, end, take-length values, drop_of_length-le was {i = length values} (omega arith), append-nil values)
+
+-- a part of a list that is written over as a whole has its numbers written one after another
+pub part_written : (xs : List ℕ) (at size : ℕ) (part values : List ℕ) → part ≡ values → size ≡ length values → at + length values ≤ length xs
+    → put_mid at size xs part ≡ sets xs at values
+part_written xs at size part values same counted fits =
+    put_mid-paste at size xs part values (length values) same (sym counted) refl
+    ∙ paste_all xs at values (length values) refl
+    ∙ sym (append_assoc (take at xs) values (drop (at + length values) xs))
+    ∙ sym (sets-eq values xs at fits)

@@ -1,68 +1,66 @@
 -- From the last number on, each is taken from all later ones. Assumes nothing.
-use native.Mathlib.Nat.{mul-le-mul}
-use native.Mathlib.Omega.{arith}
-use mathlib.Core.List.{List}
-use mathlib.Core.Path.{◌≡◌}
-use Prim.Native.Nat.{ℕ, suc, ◌+◌, ◌-◌, ◌*◌, ◌≤◌}
-use lib.ListN.{get_or}
-use Rattle.model.specs.Shares.{greatest_total, most_units}
+use Rattle.std.proofs.Common.{ℕ, List, [], ◌∷◌, ◌++◌, suc, ◌≡◌, ◌+◌, ◌-◌, ◌*◌, ◌≤◌, length, take, sym, arith}
+use Rattle.std.proofs.Math.Nat.{mul-le-mul}
+use Rattle.std.proofs.Math.Seq.{take-length}
+use Rattle.model.specs.Shares.{sum, greatest_total, most_units}
+use Rattle.model.specs.Inner.Orders.{Rising}
+use Rattle.model.proofs.Laws.Lists.{from_end}
 use Rattle.model.proofs.Laws.Pairs.{PairsFrom, pairs_none, pairs_step, from_here, told_small}
 use Rattle.model.proofs.differences.sorted_pairs.Goals as goal
-use Rattle.model.proofs.differences.sorted_pairs.Goals.{After-shared_slice_known-1}
-
-pub loop-i-init : goal.loop-i-init
-loop-i-init c = pairs_none _
-
-pub bounds-xs-i : goal.bounds-xs-i
-bounds-xs-i c = omega (arith, c.loop-i.invariant.place, c.loop-i-test.true)
+use Rattle.model.proofs.differences.sorted_pairs.Goals.{In-Some}
 
 -- the number that is passed
-module _ (c : After-shared_slice_known-1) where
-  abbrev xs : List ℕ
-  xs = c.args.xs.now
+module _ (xs rest less : List ℕ) (x : ℕ) {later total told : ℕ} (risen : Rising (length xs) xs)
+    (held : PairsFrom xs (length rest) later total told × (rest ≡ take (length rest) xs)) (is : rest ≡ less ++ (x ∷ [])) where
+  here : PairsFrom xs (suc (length less)) later total told
+  here = rw (from_end xs rest less x held.1 is).0 at held.0
 
-  abbrev i : ℕ
-  i = c.loop-i.i - 1
+  fits : later * x ≤ total
+  fits = rw (from_end xs rest less x held.1 is).1 (omega (arith, from_here risen here))
 
-  abbrev later : ℕ
-  later = c.loop-i.later
+  step : PairsFrom xs (length less) (later + 1) (total + x) (told + (total - later * x)) × (less ≡ take (length less) xs)
+  step =
+      let passed = from_end xs rest less x held.1 is in
+      (rw passed.1 (pairs_step risen here _ (rw (← passed.1) (omega (arith, fits)))), passed.2)
 
-  abbrev total : ℕ
-  total = c.loop-i.sum
+  -- what is told is small
+  small : length xs ≤ most_units → sum xs ≤ greatest_total
+      → (total + x ≤ greatest_total) × (later + 1 ≤ most_units) × (told + (total - later * x) ≤ most_units * greatest_total)
+  small short bound =
+      let next = told_small step.0 in
+      let few : later + 1 ≤ most_units = omega (arith, step.0.place) in
+      let most : total + x ≤ greatest_total = omega (arith, next.0) in
+      (most, few, omega (arith, next.1, mul-le-mul few most))
 
-  here : PairsFrom xs (suc i) later total c.loop-i.pairs
-  here = let same : suc i ≡ c.loop-i.i = omega (arith, c.loop-i-test.true) in rw same c.loop-i.invariant
+pub loop-x-init : goal.loop-x-init
+loop-x-init c =
+    rw (c.into_iter-x-iterator.ensures.into_iter_gives, c.rev-x-items.ensures.source, c.iter.ensures.rest)
+    (pairs_none c.args.xs.now, sym (take-length c.args.xs.now))
 
-  fits : later * get_or xs i 0 ≤ total
-  fits = omega (arith, from_here c.requires.rising here)
-
-pub loop-i-preserved : goal.loop-i-preserved
-loop-i-preserved c = pairs_step c.requires.rising (here c) _ (omega (arith, fits c))
-
--- what is told is small
-small : (c : After-shared_slice_known-1) → c.loop-i.pairs + (total c - later c * get_or (xs c) (i c) 0) ≤ most_units * greatest_total
-small c =
-    let next = told_small (loop-i-preserved c) in
-    let few : later c + 1 ≤ most_units = omega (arith, (loop-i-preserved c).place, c.requires.xs_len_bound) in
-    let most : total c + get_or (xs c) (i c) 0 ≤ greatest_total = omega (arith, next.0, c.requires.xs_bound) in
-    omega (arith, next.1, mul-le-mul few most)
-
-pub overflow_mul-pairs : goal.overflow_mul-pairs
-overflow_mul-pairs c = omega (arith, fits c, (told_small (here c)).0, c.requires.xs_bound)
+pub loop-x-preserved : goal.loop-x-preserved
+loop-x-preserved c = step _ _ _ _ c.requires.rising c.loop-x.invariant c.in-Some.ensures.steps
 
 pub overflow_sub-pairs : goal.overflow_sub-pairs
-overflow_sub-pairs c = fits c
+overflow_sub-pairs c = fits _ _ _ _ c.requires.rising c.loop-x.invariant c.in-Some.ensures.steps
+
+-- what is told at the number that is passed
+told : (c : In-Some)
+    → (c.loop-x.sum + c.in-Some.x.now ≤ greatest_total) × (c.loop-x.later + 1 ≤ most_units)
+    × (c.loop-x.pairs + (c.loop-x.sum - c.loop-x.later * c.in-Some.x.now) ≤ most_units * greatest_total)
+told c = small _ _ _ _ c.requires.rising c.loop-x.invariant c.in-Some.ensures.steps c.requires.xs_len_bound c.requires.xs_bound
+
+pub overflow_mul-pairs : goal.overflow_mul-pairs
+overflow_mul-pairs c =
+    omega (arith, fits _ _ _ _ c.requires.rising c.loop-x.invariant c.in-Some.ensures.steps, told (goal.at.overflow_mul-pairs c).In-Some)
 
 pub overflow_add-pairs : goal.overflow_add-pairs
-overflow_add-pairs c = omega (arith, small c)
+overflow_add-pairs c = omega (arith, told (goal.at.overflow_add-pairs c).In-Some)
 
 pub overflow_add-sum : goal.overflow_add-sum
-overflow_add-sum c = omega (arith, (told_small (loop-i-preserved c)).0, c.requires.xs_bound)
+overflow_add-sum c = omega (arith, told (goal.at.overflow_add-sum c).In-Some)
 
 pub overflow_add-later : goal.overflow_add-later
-overflow_add-later c = omega (arith, (loop-i-preserved c).place, c.requires.xs_len_bound)
+overflow_add-later c = omega (arith, told (goal.at.overflow_add-later c).In-Some)
 
 pub returns : goal.returns
-returns c =
-    let done : c.loop-i.i ≡ 0 = omega (arith, c.loop-i-test.false) in
-    rw done at c.loop-i.invariant.differ
+returns c = rw c.in-None.ensures.steps.0 at c.loop-x.invariant.0.differ

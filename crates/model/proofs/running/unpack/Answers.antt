@@ -1,46 +1,53 @@
 -- The members from i on have their numbers back. Assumes nothing.
-use native.Mathlib.Omega.{arith}
-use Prim.Native.Nat.{◌-◌, ◌≤◌, ◌<◌}
-use mathlib.Core.Path.{◌≡◌}
-use lib.ListN.{length}
-use Rattle.model.proofs.Laws.Packing.{unpacked_none, member_before, still, unpacked_step, unpacked_all}
+use Rattle.std.proofs.Common.{ℕ, suc, refl, List, [], ◌∷◌, ◌++◌, ◌≡◌, ◌+◌, ◌-◌, ◌≤◌, ◌<◌, length, get_or, set, take, sym, ◌∙◌, add-one, arith}
+use Rattle.std.proofs.Math.Seq.{take-length}
+use Rattle.model.specs.Shares.{pick}
+use Rattle.model.specs.Running.{runs}
+use Rattle.model.proofs.Laws.Lists.{from_end}
+use Rattle.model.proofs.Laws.Packing.{Unpacked, unpacked_none, still, unpacked_step, unpacked_all}
 use Rattle.model.proofs.running.unpack.Goals as goal
-use Rattle.model.proofs.running.unpack.Goals.{After-count_of-left}
-
-pub loop-i-init : goal.loop-i-init
-loop-i-init c = unpacked_none c.requires.numbers_len c.requires.count_value
-
-pub bounds-marks-i : goal.bounds-marks-i
-bounds-marks-i c = omega (arith, c.loop-i.invariant)
 
 -- the member before those that are back
-module _ (c : After-count_of-left) where
-  below : c.loop-i.i - 1 < length c.args.marks.now
-  below = omega (arith, c.loop-i.invariant)
+module _ (marks rest less : List ℕ) (mark : ℕ) {numbers ys : List ℕ} {left base i more : ℕ}
+    (held : Unpacked marks numbers ys left (length rest) × (base ≡ 0) × (rest ≡ take (length rest) marks))
+    (is : rest ≡ less ++ (mark ∷ [])) (place : i ≡ base + length less) (is_more : more ≡ pick (runs mark) 1 0) where
+  at_end : (length rest ≡ suc (length less)) × (mark ≡ get_or marks (length less) 0) × (less ≡ take (length less) marks)
+  at_end = from_end marks rest less mark held.2 is
 
-  coming : (c.count_of-left.result ≤ c.loop-i.left) × (c.loop-i.left - c.count_of-left.result ≤ c.loop-i.i - 1)
-  coming = still below (member_before (omega arith) c.loop-i.invariant) _ c.count_of-left.ensures
+  at_place : i ≡ length less
+  at_place = omega (arith, place, held.1)
+
+  here : Unpacked marks numbers ys left (length less + 1)
+  here = rw add-one (rw at_end.0 at held.0)
+
+  same : more ≡ pick (runs (get_or marks (length less) 0)) 1 0
+  same = rw at_end.1 at is_more
+
+  coming : (more ≤ left) × (left - more < length numbers)
+  coming = omega (arith, still (omega (arith, here.inside)) here more same, here.inside, here.size)
+
+  step : (value : ℕ) → value ≡ pick (runs mark) (get_or numbers (left - more) 0) 0
+      → Unpacked marks (set numbers i value) ys (left - more) (length less) × (base ≡ 0) × (less ≡ take (length less) marks)
+  step value is_value =
+      rw at_place (unpacked_step (omega (arith, here.inside)) here more value same (rw at_end.1 at is_value), held.1, at_end.2)
+
+pub loop-i-init : goal.loop-i-init
+loop-i-init c =
+    rw (c.into_iter-i-iterator.ensures.into_iter_gives, c.rev-i-items.ensures.source, c.enumerate.ensures.source, c.enumerate.ensures.count, c.iter.ensures.rest)
+    (unpacked_none c.requires.numbers_len c.requires.count_value, refl, sym (take-length c.args.marks.now))
 
 pub overflow_sub-left : goal.overflow_sub-left
-overflow_sub-left c = (coming c).0
-
-pub bounds-marks-i-in-loop-i : goal.bounds-marks-i-in-loop-i
-bounds-marks-i-in-loop-i c = below (goal.at.bounds-marks-i-in-loop-i c).After-count_of-left
-
-pub offset_bounds-numbers-left : goal.offset_bounds-numbers-left
-offset_bounds-numbers-left c = omega (arith, coming (goal.at.offset_bounds-numbers-left c).After-count_of-left)
+overflow_sub-left c =
+    (coming _ _ _ _ c.loop-i.invariant c.in-Some.ensures.steps.1.0 c.in-Some.ensures.steps.1.1 c.count_of-left.ensures).0
 
 pub bounds-numbers-left : goal.bounds-numbers-left
-bounds-numbers-left c = omega (arith, coming (goal.at.bounds-numbers-left c).After-count_of-left, below (goal.at.bounds-numbers-left c).After-count_of-left, c.loop-i.invariant)
-
-pub bounds-numbers-i : goal.bounds-numbers-i
-bounds-numbers-i c = omega (arith, below (goal.at.bounds-numbers-i c).After-count_of-left, c.loop-i.invariant)
+bounds-numbers-left c =
+    (coming _ _ _ _ c.loop-i.invariant c.in-Some.ensures.steps.1.0 c.in-Some.ensures.steps.1.1 c.count_of-left.ensures).1
 
 pub loop-i-preserved : goal.loop-i-preserved
 loop-i-preserved c =
-    unpacked_step (below (goal.at.loop-i-preserved c).After-count_of-left) (member_before (omega arith) c.loop-i.invariant) _ _ c.count_of-left.ensures c.if_running.ensures
+    let kept = step _ _ _ _ c.loop-i.invariant c.in-Some.ensures.steps.1.0 c.in-Some.ensures.steps.1.1 c.count_of-left.ensures _ c.if_running.ensures in
+    (kept.0, c.in-Some.ensures.steps.0 ∙ kept.1, kept.2)
 
 pub returns : goal.returns
-returns c =
-    let done : c.loop-i.i ≡ 0 = omega arith in
-    unpacked_all (rw done at c.loop-i.invariant)
+returns c = unpacked_all (rw c.in-None.ensures.steps.1.0 at c.loop-i.invariant.0)

@@ -1,16 +1,13 @@
--- What was added up and the sum of what is left are the sum. Assumes nothing.
-use native.Mathlib.Omega.{arith}
-use lib.ListN.{drop_of_length-le}
-use Rattle.model.specs.Shares.{sum}
-use Rattle.model.proofs.Laws.Walk.{sum_walk}
+-- The sum is the library's. Assumes nothing.
+use Rattle.std.proofs.Common.{rules, ◌≤◌}
+use Rattle.std.specs.List.{sum_by}
+use Rattle.model.specs.Shares.{greatest_total}
+use Rattle.model.proofs.Laws.Lists.{sum_is}
 use Rattle.model.proofs.shares.sum_of.Goals as goal
 
-pub loop-i-preserved : goal.loop-i-preserved
-loop-i-preserved c = omega (arith, sum_walk c.args.xs.now c.loop-i.i c.loop-i-test.true)
-
-pub overflow_add-total : goal.overflow_add-total
-overflow_add-total c = omega (arith, (loop-i-preserved c).1)
+pub sum-requires-clause-fits : goal.sum-requires-clause-fits
+sum-requires-clause-fits c =
+    let small : sum_by (λ x. x) c.args.xs.now ≤ greatest_total = rw sum_is at c.requires in search (rules, small)
 
 pub returns : goal.returns
-unfolding sum
-returns c = rw (← c.loop-i.invariant.1, drop_of_length-le _ c.loop-i-test.false) (omega arith)
+returns c = rw (sum_is c.args.xs.now) (search rules)
