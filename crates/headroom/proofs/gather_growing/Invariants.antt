@@ -1,13 +1,10 @@
 -- What was gathered and the members left that can take a copy are all. Assumes nothing.
 use mathlib.Core.Path.{◌≡◌}
-use Prim.Native.Nat.{◌+◌, ◌-◌, ◌≤◌}
-use lib.ListN.{length, drop}
+use Prim.Native.Nat.{◌+◌, ◌≤◌}
+use lib.ListN.{drop}
 use Rattle.model.specs.Levels.{roomier}
 use Rattle.headroom.proofs.gather_growing.Given as goal
 
 abbrev pub invariant-loop-i : goal.invariant-loop-i
 invariant-loop-i l =
-    (l.i ≤ length l.lows) × (l.count ≤ l.i) × (length l.out ≡ length l.initial.out) × (l.count + roomier (drop l.i l.lows) (drop l.i l.highs) l.v l.v ≡ roomier l.lows l.highs l.v l.v)
-
-abbrev pub decreases-loop-i : goal.decreases-loop-i
-decreases-loop-i l = length l.lows - l.i
+    (l.count ≤ l.i) × (l.count + roomier (drop l.i l.lows) (drop l.i l.highs) l.v l.v ≡ roomier l.lows l.highs l.v l.v)
