@@ -1,8 +1,8 @@
 // Building the breakpoint table of a group: the bounds of its members sorted, then a row for each. Members with one value are left out, unless
 // pairs are limited.
-ghost use Rattle.std.specs.Prelude.{true, ◌≡◌, ◌+◌, ◌*◌, ◌≤◌, ltb, length, take};
+ghost use Rattle.std.specs.Prelude.{true, ◌≡◌, ◌+◌, ◌*◌, ◌≤◌, length, take};
 ghost use Rattle.model.specs.Figures.{pairs};
-ghost use Rattle.model.specs.Shares.{pick, sum, greatest_total, most_units};
+ghost use Rattle.model.specs.Shares.{sum, greatest_total, most_units};
 ghost use Rattle.model.specs.Sound.{SoundRanges};
 ghost use Rattle.model.specs.Inner.Orders.{Ordered, Rising};
 ghost use Rattle.breakpoints.specs.Inner.Distances.{Paired};
@@ -14,18 +14,7 @@ use crate::distances::distances_at;
 use crate::rows::{PairRow, Row, last_row, read_row, write_pair_row, write_row};
 use crate::table::{first_row, next_row};
 use model::differences::sorted_pairs;
-use model::lists::copy;
 use sorting::sort;
-
-// 1 for a range of several values, 0 for one of a single value.
-fn one_if_several(low: u64, high: u64) -> usize
-    ensures { result ≡ pick (ltb low high) 1 0 }
-{
-    if low < high {
-        return 1;
-    }
-    0
-}
 
 // Writes the lows and highs of the members with several values over starts and stops, and hands back how many they are.
 // The others' shares are the same at every level, so that their bounds need no rows.
@@ -37,13 +26,11 @@ fn gather(lows: &[u64], highs: &[u64], starts: &mut [u64], stops: &mut [u64]) ->
     ensures kept { Kept lows.now highs.now (take result starts.new) (take result stops.new) }
 {
     let mut count: usize = 0;
-    let mut i: usize = 0;
-    while i < lows.len() {
+    for (low, high) in lows.iter().zip(highs) {
         // A single value is written over by the next member's.
-        starts[count] = lows[i];
-        stops[count] = highs[i];
-        count += one_if_several(lows[i], highs[i]);
-        i += 1;
+        starts[count] = *low;
+        stops[count] = *high;
+        count += usize::from(low < high);
     }
     count
 }
@@ -56,14 +43,11 @@ fn fill(lows: &[u64], highs: &[u64], starts: &[u64], stops: &[u64], table: &mut 
     ensures breakpoints { Breakpoints lows.now highs.now table.new }
     ensures passed { Passed starts.now table.new }
 {
-    let last = 2 * starts.len();
     let mut row = first_row(lows, highs);
     write_row(table, 0, row);
-    let mut k: usize = 0;
-    while k < last {
+    for k in 0..2 * starts.len() {
         row = next_row(lows, highs, starts, stops, row);
-        k += 1;
-        write_row(table, k, row);
+        write_row(table, k + 1, row);
     }
 }
 
@@ -108,16 +92,14 @@ fn fill_pairs(lows: &[u64], highs: &[u64], starts: &[u64], table: &mut [u64])
     let mut row = read_row(table, 0);
     let mut here = first_pair_row(starts, row);
     write_pair_row(table, 0, here);
-    let mut k: usize = 0;
-    while k < last {
-        k += 1;
-        let next = read_row(table, k);
+    for k in 0..last {
+        let next = read_row(table, k + 1);
         let there = distances_at(count, row, here, next.mark);
         here = PairRow {
             far: there.far,
             pairs: there.pairs,
         };
-        write_pair_row(table, k, here);
+        write_pair_row(table, k + 1, here);
         row = next;
     }
 }
@@ -164,8 +146,8 @@ fn build_paired(
     ensures breakpoints { Breakpoints lows.now highs.now table.new }
     ensures paired { Paired lows.now highs.now table.new }
 {
-    copy(lows, starts);
-    copy(highs, stops);
+    starts.copy_from_slice(lows);
+    stops.copy_from_slice(highs);
     build_on(lows, highs, starts, stops, table);
     fill_pairs(lows, highs, starts, table);
 }

@@ -20,6 +20,7 @@ pub struct PairRow {
 }
 
 // The last row of a table.
+#[tactic(auto, unfolding(crate::specs::Inner::Rows::last_row))]
 pub fn last_row(table: &[u64]) -> usize
     requires { 7 ≤ length table.now }
     ensures { result ≡ last_row table.now }
@@ -28,6 +29,7 @@ pub fn last_row(table: &[u64]) -> usize
 }
 
 // Row k of a table.
+#[tactic(auto, unfolding(crate::specs::Inner::Rows::row_at))]
 pub fn read_row(table: &[u64], k: usize) -> Row
     requires { 7 * k + 7 ≤ length table.now }
     ensures { result ≡ row_at table.now k }
@@ -56,6 +58,7 @@ pub fn write_row(table: &mut [u64], k: usize, row: Row)
 }
 
 // The two numbers behind row k of a table.
+#[tactic(auto, unfolding(crate::specs::Inner::Rows::pair_row_at))]
 pub fn read_pair_row(table: &[u64], k: usize) -> PairRow
     requires { 7 * k + 7 ≤ length table.now }
     ensures { result ≡ pair_row_at table.now k }

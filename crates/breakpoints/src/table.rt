@@ -45,13 +45,7 @@ fn low_first(lows: &[u64], highs: &[u64], a: usize, b: usize) -> bool
     requires b_in_bounds_2 { a + b < length lows.now + length highs.now }
     ensures { First lows.now highs.now a b result }
 {
-    if a == lows.len() {
-        return false;
-    }
-    if b == highs.len() {
-        return true;
-    }
-    lows[a] <= highs[b]
+    a < lows.len() && (b == highs.len() || lows[a] <= highs[b])
 }
 
 // The row for the next bound on the way up.
@@ -81,11 +75,9 @@ pub fn first_row(lows: &[u64], highs: &[u64]) -> Row
 {
     let mut copies: u64 = 0;
     let mut squares: u64 = 0;
-    let mut i: usize = 0;
-    while i < lows.len() {
-        copies += lows[i];
-        squares += square(lows[i]);
-        i += 1;
+    for low in lows {
+        copies += low;
+        squares += square(*low);
     }
     Row {
         mark: 0,

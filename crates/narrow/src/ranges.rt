@@ -1,5 +1,5 @@
 // Narrowing a group's ranges: a value stays exactly if the group pinned to it has a plan.
-ghost use Rattle.std.specs.Prelude.{◌≡◌, ◌≤◌, length};
+ghost use Rattle.std.specs.Prelude.{◌≡◌, ◌≤◌, ◌+◌, ◌*◌, length};
 ghost use Rattle.model.specs.Plans.{has_plan, narrowed_lows, narrowed_highs};
 ghost use Rattle.model.specs.Shares.{pick};
 ghost use Rattle.model.specs.Sound.{SoundRanges, HasShares};
@@ -7,7 +7,6 @@ ghost use Rattle.narrow.specs.Inner.Turns.{NarrowedIf, Turned};
 ghost use Rattle.range_ends.specs.Inner.Tabled.{Tabled, TableLists, TableRoom};
 
 use breakpoints::build::build;
-use model::lists::copy;
 use model::shares::has_shares;
 use model::{MOST_UNITS, Question, Turn};
 use probe::probing::level_on;
@@ -42,11 +41,7 @@ fn narrow_on(
         up: false,
     };
     narrow_ends(lows, highs, table, question, down, starts);
-    let up = EndsAsked {
-        terms,
-        levelled,
-        up: true,
-    };
+    let up = EndsAsked { up: true, ..down };
     narrow_ends(lows, highs, table, question, up, stops);
     true
 }
@@ -65,16 +60,14 @@ fn narrow_with(
     requires table_lists { TableLists (length lows.old) starts.old stops.old table.old }
     ensures { NarrowedIf lows.old highs.old question.total question.limits result lows.new highs.new }
 {
-    let limits = question.limits;
-    let pairs = limits.pairs;
-    let paired = limits_pairs(pairs);
+    let paired = limits_pairs(question.limits.pairs);
     let size = build(lows, highs, starts, stops, table, paired);
     let planned = narrow_on(lows, highs, &table[..size], question, starts, stops);
     if !planned {
         return false;
     }
-    copy(starts, lows);
-    copy(stops, highs);
+    lows.copy_from_slice(starts);
+    highs.copy_from_slice(stops);
     true
 }
 
@@ -102,99 +95,36 @@ fn narrow_within(
     )
 }
 
-// The same for a group of at most 2 members, with small arrays: clearing large ones would be much of its time.
-fn narrow_couple(lows: &mut [u64], highs: &mut [u64], question: Question) -> bool
+// The same for a group of at most so many members, with arrays of that size: clearing large ones would be much of a small group's time.
+fn narrow_in<const MEMBERS: usize, const ROOM: usize>(
+    lows: &mut [u64],
+    highs: &mut [u64],
+    question: Question,
+) -> bool
     requires has_shares { HasShares lows.old highs.old question.total }
-    requires lows_len_bound { length lows.old ≤ 2 }
+    requires lows_len_bound { length lows.old ≤ MEMBERS }
+    requires room_bounds { (7 * (2 * MEMBERS) + 7 ≤ ROOM) × (ROOM ≤ 4096) }
     ensures { NarrowedIf lows.old highs.old question.total question.limits result lows.new highs.new }
 {
-    let mut starts = [0u64; 2];
-    let mut stops = [0u64; 2];
-    let mut table = [0u64; 35];
+    let mut starts = [0u64; MEMBERS];
+    let mut stops = [0u64; MEMBERS];
+    let mut table = [0u64; ROOM];
     narrow_within(lows, highs, question, &mut starts, &mut stops, &mut table)
 }
 
-// The same for a group of at most 4 members.
-fn narrow_handful(lows: &mut [u64], highs: &mut [u64], question: Question) -> bool
-    requires has_shares { HasShares lows.old highs.old question.total }
-    requires lows_len_bound { length lows.old ≤ 4 }
-    ensures { NarrowedIf lows.old highs.old question.total question.limits result lows.new highs.new }
-{
-    let mut starts = [0u64; 4];
-    let mut stops = [0u64; 4];
-    let mut table = [0u64; 63];
-    narrow_within(lows, highs, question, &mut starts, &mut stops, &mut table)
-}
-
-// The same for a group of at most 8 members.
-fn narrow_few(lows: &mut [u64], highs: &mut [u64], question: Question) -> bool
-    requires has_shares { HasShares lows.old highs.old question.total }
-    requires lows_len_bound { length lows.old ≤ 8 }
-    ensures { NarrowedIf lows.old highs.old question.total question.limits result lows.new highs.new }
-{
-    let mut starts = [0u64; 8];
-    let mut stops = [0u64; 8];
-    let mut table = [0u64; 119];
-    narrow_within(lows, highs, question, &mut starts, &mut stops, &mut table)
-}
-
-// The same for a group of at most 16 members.
-fn narrow_several(lows: &mut [u64], highs: &mut [u64], question: Question) -> bool
-    requires has_shares { HasShares lows.old highs.old question.total }
-    requires lows_len_bound { length lows.old ≤ 16 }
-    ensures { NarrowedIf lows.old highs.old question.total question.limits result lows.new highs.new }
-{
-    let mut starts = [0u64; 16];
-    let mut stops = [0u64; 16];
-    let mut table = [0u64; 231];
-    narrow_within(lows, highs, question, &mut starts, &mut stops, &mut table)
-}
-
-// The same for a group of at most 64 members.
-fn narrow_many(lows: &mut [u64], highs: &mut [u64], question: Question) -> bool
-    requires has_shares { HasShares lows.old highs.old question.total }
-    requires lows_len_bound { length lows.old ≤ 64 }
-    ensures { NarrowedIf lows.old highs.old question.total question.limits result lows.new highs.new }
-{
-    let mut starts = [0u64; 64];
-    let mut stops = [0u64; 64];
-    let mut table = [0u64; 903];
-    narrow_within(lows, highs, question, &mut starts, &mut stops, &mut table)
-}
-
-// The same for the largest groups.
-fn narrow_most(lows: &mut [u64], highs: &mut [u64], question: Question) -> bool
-    requires { HasShares lows.old highs.old question.total }
-    ensures { NarrowedIf lows.old highs.old question.total question.limits result lows.new highs.new }
-{
-    let mut starts = [0u64; MOST_UNITS];
-    let mut stops = [0u64; MOST_UNITS];
-    let mut table = [0u64; 3591];
-    narrow_within(lows, highs, question, &mut starts, &mut stops, &mut table)
-}
-
-// The same for every group: the room goes by its size, and each size of it stands in a function of its own.
+// The same for every group: the room goes by its size, and each size of it has an instance of its own.
 fn narrow_sized(lows: &mut [u64], highs: &mut [u64], question: Question) -> bool
     requires { HasShares lows.old highs.old question.total }
     ensures { NarrowedIf lows.old highs.old question.total question.limits result lows.new highs.new }
 {
-    let count = lows.len();
-    if count <= 2 {
-        return narrow_couple(lows, highs, question);
+    match lows.len() {
+        0..=2 => narrow_in::<2, 35>(lows, highs, question),
+        3..=4 => narrow_in::<4, 63>(lows, highs, question),
+        5..=8 => narrow_in::<8, 119>(lows, highs, question),
+        9..=16 => narrow_in::<16, 231>(lows, highs, question),
+        17..=64 => narrow_in::<64, 903>(lows, highs, question),
+        _ => narrow_in::<MOST_UNITS, 3591>(lows, highs, question),
     }
-    if count <= 4 {
-        return narrow_handful(lows, highs, question);
-    }
-    if count <= 8 {
-        return narrow_few(lows, highs, question);
-    }
-    if count <= 16 {
-        return narrow_several(lows, highs, question);
-    }
-    if count <= 64 {
-        return narrow_many(lows, highs, question);
-    }
-    narrow_most(lows, highs, question)
 }
 
 // Narrows sound lists in place, or says that there is no plan and leaves them as they were.

@@ -9,7 +9,6 @@ ghost use Rattle.probe.specs.Inner.Lookups.{PairLookable};
 use crate::terms::Terms;
 use breakpoints::distances::{Distances, distances_at, row_of};
 use breakpoints::rows::{read_pair_row, read_row};
-use model::numbers::apart;
 
 // The distances at a level, from the row below it.
 pub fn distances_on(
@@ -49,5 +48,5 @@ pub fn far_from(
     }
     let k = row_of(table, terms.last, value);
     let there = distances_on(lows, highs, table, terms, k, value);
-    there.far + apart(there.total, here.total)
+    there.far + there.total.abs_diff(here.total)
 }

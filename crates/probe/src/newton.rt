@@ -3,43 +3,12 @@
 ghost use Rattle.std.specs.Prelude.{◌≤◌, ◌<◌};
 ghost use Rattle.breakpoints.specs.Inner.Distances.{most_pairs};
 
-use model::levels::clamp;
-
-// How many steps take so much off, where each takes off at most so much.
-fn steps(much: u64, each: u64) -> u64
-    requires { 0 < each }
-    ensures { result ≤ much }
-{
-    if much == 0 {
-        return 0;
-    }
-    (much - 1) / each + 1
-}
-
-// A number, but 1 for 0.
-fn at_least_one(x: u64) -> u64
-    ensures { 0 < result }
-{
-    if x == 0 {
-        return 1;
-    }
-    x
-}
-
-// The larger of two numbers.
-fn larger(a: u64, b: u64) -> u64 {
-    if a < b {
-        return b;
-    }
-    a
-}
-
 // The step from a value at some distance from the level of the other members, where the squares and the part above the mean are
 // over by so much. Both are convex in the value: one value inward takes at most twice the distance off the squares, and n off the part.
 pub fn newton_step(squares: u64, half: u64, distance: u64, count: u64) -> u64 {
-    let by_squares = steps(squares - squares / 2, at_least_one(distance));
-    let by_half = steps(half, at_least_one(count));
-    larger(by_squares, by_half)
+    let by_squares = squares.div_ceil(2).div_ceil(distance.max(1));
+    let by_half = half.div_ceil(count.max(1));
+    by_squares.max(by_half)
 }
 
 // One of Newton's steps down to the fewest steps with s × (least + s) at least so much, from a number of steps that is not too small.
@@ -47,7 +16,7 @@ fn nearer(steps: u64, least: u64, much: u64) -> u64
     requires { (steps ≤ 1024) × (0 < least) × (least ≤ 8192) × (much ≤ most_pairs) }
     ensures { result ≤ 1024 }
 {
-    clamp(0, 1024, (steps * steps + much) / (least + 2 * steps))
+    ((steps * steps + much) / (least + 2 * steps)).min(1024)
 }
 
 // How many steps of a turn take so much off, where the first takes off one more than the least, and each further one two more
@@ -57,7 +26,7 @@ fn steps_of_turn(least: u64, most: u64, much: u64) -> u64
     ensures { result ≤ most_pairs }
 {
     let near = nearer(most, least, much);
-    steps(much, least + nearer(near, least, much))
+    much.div_ceil(least + nearer(near, least, much))
 }
 
 // How many steps take so much off, where they go in turns of so many, and some of the first turn are done.

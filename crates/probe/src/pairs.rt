@@ -1,21 +1,18 @@
 // The pair differences of a pinned group at the level that its total reaches.
-ghost use Rattle.std.specs.Prelude.{◌≡◌, ◌≤◌};
+ghost use Rattle.std.specs.Prelude.{◌≤◌};
 ghost use Rattle.model.specs.Shares.{greatest_share};
 ghost use Rattle.breakpoints.specs.Inner.Distances.{DistancesAt, MarksKept};
 ghost use Rattle.probe.specs.Inner.Lookups.{PairLookable};
 ghost use Rattle.probe.specs.Inner.Pairs.{WithValue, WithOver, OverGiven, Spotted, PinnedPairs};
-ghost use Rattle.breakpoints.specs.Inner.Distances.{above_level};
 ghost use Rattle.probe.specs.Inner.Verdicts.{Asked};
 
 use crate::lookups::{distances_on, far_from};
 use crate::newton::turns;
 use crate::pinned::Trial;
-use crate::sides::past;
 use crate::terms::{MOST_PAIRS, Terms};
 use breakpoints::distances::{Distances, row_of};
 use breakpoints::rows::read_row;
-use model::levels::{clamp, growth};
-use model::numbers::apart;
+use model::levels::growth;
 
 // A level with copies left over, and the row below it.
 #[derive(Clone, Copy)]
@@ -23,16 +20,6 @@ pub struct LevelSpot {
     pub row: usize,
     pub level: u64,
     pub over: u64,
-}
-
-// 1 for a share above a level, else 0.
-fn one_if_above(level: u64, share: u64) -> u64
-    ensures { result ≡ above_level level share }
-{
-    if level < share {
-        return 1;
-    }
-    0
 }
 
 // The pair differences at a level with a value in place of a member's own share: the one's distances come, the other's go.
@@ -50,10 +37,10 @@ fn with_value(
     requires asked { Asked lows.now highs.now trial.low trial.high trial.value }
     ensures { WithValue lows.now highs.now trial.low trial.high trial.value here.level result }
 {
-    let own = clamp(trial.low, trial.high, here.level);
+    let own = here.level.clamp(trial.low, trial.high);
     let near = far_from(lows, highs, table, terms, here, own);
     let far = far_from(lows, highs, table, terms, here, trial.value);
-    here.pairs + far - near - apart(own, trial.value)
+    here.pairs + far - near - own.abs_diff(trial.value)
 }
 
 // The pair differences with the copies left over given out: each takes a share further from those at the level and below,
@@ -62,9 +49,9 @@ fn with_over(count: u64, lows: u64, trial: Trial, spot: LevelSpot, pairs: u64) -
     requires { OverGiven count lows trial.low trial.high trial.value spot.level spot.over pairs }
     ensures { WithOver count lows trial.low trial.high trial.value spot.level spot.over pairs result }
 {
-    let own = clamp(trial.low, trial.high, spot.level);
-    let passed = lows + one_if_above(spot.level, own);
-    let above = count + one_if_above(spot.level, trial.value) - passed;
+    let own = spot.level.clamp(trial.low, trial.high);
+    let passed = lows + u64::from(spot.level < own);
+    let above = count + u64::from(spot.level < trial.value) - passed;
     pairs + spot.over * count - spot.over * (spot.over + 2 * above)
 }
 
@@ -90,17 +77,6 @@ pub fn pinned_pairs(
     with_over(terms.count, row.lows, trial, spot, pairs)
 }
 
-// 1 for a high above a value and at or below the level, else 0.
-fn one_if_between(value: u64, high: u64, level: u64) -> u64 {
-    if high <= value {
-        return 0;
-    }
-    if level < high {
-        return 0;
-    }
-    1
-}
-
 // How far inward of a value whose pairs are over by so much the first one within the limit can lie. A value nearer takes 2 off, and 2 more
 // for each other member strictly between it and the member that gets the copy or gives one. Those at their lows or highs stay where they are;
 // those that grow come between one by one, in turns. It is tried there next, so that this matters to the time alone.
@@ -111,24 +87,19 @@ pub fn pair_step(table: &[u64], last: usize, trial: Trial, spot: LevelSpot, much
     let row = read_row(table, spot.row);
     let beside = row_of(table, last, trial.value);
     let there = read_row(table, beside);
-    let moving = past(row.lows, row.highs);
-    let growing = clamp(
-        1,
-        256,
-        past(moving, growth(trial.low, trial.high, row.mark)),
-    );
-    let over = clamp(0, growing, spot.over);
-    let most = clamp(0, MOST_PAIRS, much);
+    let moving = row.lows.saturating_sub(row.highs);
+    let own = growth(trial.low, trial.high, row.mark);
+    let growing = moving.saturating_sub(own).clamp(1, 256);
+    let over = spot.over.min(growing);
+    let most = much.min(MOST_PAIRS);
     if spot.level < trial.value {
-        let passed = past(there.lows, row.lows);
-        let between = clamp(0, 256, past(passed, one_if_above(spot.level, trial.low)));
+        let passed = there.lows.saturating_sub(row.lows);
+        let own_low = u64::from(spot.level < trial.low);
+        let between = passed.saturating_sub(own_low).min(256);
         return turns(2 * between + 1, growing, over, most);
     }
-    let passed = past(row.highs, there.highs);
-    let between = clamp(
-        0,
-        256,
-        past(passed, one_if_between(trial.value, trial.high, spot.level)),
-    );
+    let passed = row.highs.saturating_sub(there.highs);
+    let own_high = u64::from(trial.value < trial.high && trial.high <= spot.level);
+    let between = passed.saturating_sub(own_high).min(256);
     turns(2 * between + 1, growing, (growing - over) % growing, most)
 }

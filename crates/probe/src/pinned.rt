@@ -6,7 +6,7 @@ ghost use Rattle.breakpoints.specs.Inner.Rows.{row_at};
 ghost use Rattle.probe.specs.Inner.Probes.{Pinnable, Probeable, LastWithin, IntoReach, Divided, pinned_total};
 
 use breakpoints::rows::{Row, read_row};
-use model::levels::{clamp, growth};
+use model::levels::growth;
 
 // A value to try for a member with this low and high, and a row to look at first. 0 for a member with the range 0 to 0
 // changes no sum: the group itself.
@@ -30,11 +30,12 @@ pub struct Reach {
 }
 
 // T at a row's level of the group with v in place of a member's own.
+#[tactic(auto, unfolding(crate::specs::Inner::Probes::pinned_total))]
 pub fn pinned_total(row: Row, low: u64, high: u64, v: u64) -> u64
     requires { Pinnable row low high v }
     ensures { result ≡ pinned_total row low high v }
 {
-    row.total + v - clamp(low, high, row.mark)
+    row.total + v - row.mark.clamp(low, high)
 }
 
 // A row strictly between two others: near where it is one, else a step from the one next to near, or halfway where that is too far.
@@ -56,17 +57,6 @@ fn row_between(k: usize, top: usize, near: usize, step: usize) -> usize
     near
 }
 
-// Twice a step, as long as a table may be longer.
-fn doubled(step: usize) -> usize
-    requires { (0 < step) × (step ≤ 1024) }
-    ensures { (0 < result) × (result ≤ 1024) }
-{
-    if step < 512 {
-        return 2 * step;
-    }
-    step
-}
-
 // The last row with the pinned group's T at most the total, searched from the trial's row by growing steps between k, which has it, and top, which has not or is past the last.
 pub fn last_within(table: &[u64], last: usize, trial: Trial, total: u64) -> usize
     requires probeable { Probeable table.now last trial.low trial.high trial.value }
@@ -79,7 +69,7 @@ pub fn last_within(table: &[u64], last: usize, trial: Trial, total: u64) -> usiz
     while 1 < top - k {
         let middle = row_between(k, top, trial.row, step);
         let row = read_row(table, middle);
-        step = doubled(step);
+        step = (2 * step).min(512);
         if pinned_total(row, trial.low, trial.high, trial.value) <= total {
             k = middle;
         } else {

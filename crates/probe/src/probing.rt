@@ -9,11 +9,9 @@ use crate::figures::pinned_squares;
 use crate::newton::newton_step;
 use crate::pairs::{LevelSpot, pair_step, pinned_pairs};
 use crate::pinned::{Trial, last_within, pinned_total, reach_from};
-use crate::sides::{past, pinned_half};
+use crate::sides::pinned_half;
 use crate::terms::{MOST_PAIRS, Terms};
 use breakpoints::rows::read_row;
-use model::levels::clamp;
-use model::numbers::apart;
 use model::{Question, Share};
 
 // What a look at a pinned group finds: half of the deviation and the sum of squares of its levelled shares, and the level
@@ -37,7 +35,7 @@ fn look(lows: &[u64], highs: &[u64], table: &[u64], terms: Terms, trial: Trial, 
     let row = read_row(table, k);
     let copies = terms.total - pinned_total(row, trial.low, trial.high, trial.value);
     let reach = reach_from(row, trial.low, trial.high, copies);
-    let own = clamp(trial.low, trial.high, row.mark);
+    let own = row.mark.clamp(trial.low, trial.high);
     let squares = pinned_squares(row, own, trial.value, reach);
     let half = pinned_half(terms, trial, reach);
     Pinned {
@@ -52,10 +50,7 @@ fn look(lows: &[u64], highs: &[u64], table: &[u64], terms: Terms, trial: Trial, 
 fn within(terms: Terms, pinned: Pinned) -> bool
     ensures { result ≡ within_terms terms pinned }
 {
-    if terms.squares < pinned.squares {
-        return false;
-    }
-    pinned.half <= terms.half
+    pinned.half <= terms.half && pinned.squares <= terms.squares
 }
 
 // What a trial tells: whether the group with the member pinned to the value has a plan, how far inward of the last value
@@ -69,9 +64,9 @@ pub struct Tried {
 
 // How far inward of a value beyond the limits of deviation and spread to look next.
 fn step_inward(terms: Terms, trial: Trial, pinned: Pinned) -> u64 {
-    let squares = past(pinned.squares, terms.squares);
-    let half = past(pinned.half, terms.half);
-    let distance = apart(trial.value, pinned.level);
+    let squares = pinned.squares.saturating_sub(terms.squares);
+    let half = pinned.half.saturating_sub(terms.half);
+    let distance = trial.value.abs_diff(pinned.level);
     newton_step(squares, half, distance, terms.count)
 }
 
@@ -91,19 +86,13 @@ pub fn try_value(
 {
     let row = last_within(table, terms.last, trial, terms.total);
     let pinned = look(lows, highs, table, terms, trial, row);
-    if within(terms, pinned) {
-        return Tried {
-            taken: true,
-            inward: Share::GREATEST,
-            row,
-        };
-    }
-    let inward = step_inward(terms, trial, pinned);
-    Tried {
-        taken: false,
-        inward,
-        row,
-    }
+    let taken = within(terms, pinned);
+    let inward = if taken {
+        Share::GREATEST
+    } else {
+        step_inward(terms, trial, pinned)
+    };
+    Tried { taken, inward, row }
 }
 
 // Tries a value under all three limits, pairs last.
@@ -129,24 +118,18 @@ pub fn try_paired(lows: &[u64], highs: &[u64], table: &[u64], terms: Terms, tria
         over: found.over,
     };
     let pairs = pinned_pairs(lows, highs, table, terms, trial, spot);
-    if pairs <= terms.pairs {
-        return Tried {
-            taken: true,
-            inward: Share::GREATEST,
-            row,
-        };
-    }
-    let inward = pair_step(table, terms.last, trial, spot, pairs - terms.pairs);
-    Tried {
-        taken: false,
-        inward,
-        row,
-    }
+    let taken = pairs <= terms.pairs;
+    let inward = if taken {
+        Share::GREATEST
+    } else {
+        pair_step(table, terms.last, trial, spot, pairs - terms.pairs)
+    };
+    Tried { taken, inward, row }
 }
 
 // A level with the copies left over there, the row below it, and whether the limits allow the shares there.
 #[derive(Clone, Copy)]
-pub struct Levelled {
+pub struct GroupLevel {
     pub row: usize,
     pub level: u64,
     pub over: u64,
@@ -173,7 +156,7 @@ fn meets_all(
 }
 
 // The level at which the group has its total, and whether it has a plan: the group itself is one with 0 pinned to 0.
-pub fn level_on(lows: &[u64], highs: &[u64], table: &[u64], terms: Terms) -> Levelled
+pub fn level_on(lows: &[u64], highs: &[u64], table: &[u64], terms: Terms) -> GroupLevel
     requires { Lookable lows.now highs.now table.now terms 0 0 0 }
     ensures { LevelledOn lows.now highs.now table.now terms result }
 {
@@ -186,7 +169,7 @@ pub fn level_on(lows: &[u64], highs: &[u64], table: &[u64], terms: Terms) -> Lev
     let row = last_within(table, terms.last, whole, terms.total);
     let pinned = look(lows, highs, table, terms, whole, row);
     let planned = meets_all(lows, highs, table, terms, whole, pinned);
-    Levelled {
+    GroupLevel {
         row,
         level: pinned.level,
         over: pinned.over,

@@ -1,6 +1,6 @@
 // Half of a pinned group's deviation: its part above the mean, which is as much as its part below. Where the level is above the
 // mean, what lies below are members at their highs; elsewhere, what lies above are members at their lows, and those with one of the copies left over.
-ghost use Rattle.std.specs.Prelude.{◌≡◌, ◌-◌, ◌≤◌};
+ghost use Rattle.std.specs.Prelude.{◌≤◌};
 ghost use Rattle.model.specs.Shares.{greatest_total, most_units};
 ghost use Rattle.breakpoints.specs.Inner.Tables.{SoundWithTotal};
 ghost use Rattle.probe.specs.Inner.Sides.{BothSides, Halved, Halving};
@@ -15,16 +15,6 @@ pub struct Sides {
     pub below: u64,
 }
 
-// By how much a number is past another, or 0.
-pub(crate) fn past(a: u64, b: u64) -> u64
-    ensures { result ≡ a - b }
-{
-    if a <= b {
-        return 0;
-    }
-    a - b
-}
-
 // Both sums of a group.
 pub fn both_sides(lows: &[u64], highs: &[u64], total: u64) -> Sides
     requires { SoundWithTotal lows.now highs.now total }
@@ -33,11 +23,9 @@ pub fn both_sides(lows: &[u64], highs: &[u64], total: u64) -> Sides
     let count = lows.len() as u64;
     let mut above: u64 = 0;
     let mut below: u64 = 0;
-    let mut i: usize = 0;
-    while i < lows.len() {
-        above += past(count * lows[i], total);
-        below += past(total, count * highs[i]);
-        i += 1;
+    for (low, high) in lows.iter().zip(highs) {
+        above += (count * low).saturating_sub(total);
+        below += total.saturating_sub(count * high);
     }
     Sides { above, below }
 }
@@ -53,11 +41,11 @@ pub fn pinned_half(terms: Terms, trial: Trial, reach: Reach) -> u64
     let total = terms.total;
     let value = count * trial.value;
     if total <= count * reach.level {
-        let with_value = terms.below + past(total, value);
-        return with_value - past(total, count * trial.high);
+        let with_value = terms.below + total.saturating_sub(value);
+        return with_value - total.saturating_sub(count * trial.high);
     }
-    let with_value = terms.above + past(value, total);
-    let kept = with_value - past(count * trial.low, total);
-    let next = past(count * (reach.level + 1), total);
+    let with_value = terms.above + value.saturating_sub(total);
+    let kept = with_value - (count * trial.low).saturating_sub(total);
+    let next = (count * (reach.level + 1)).saturating_sub(total);
     kept + reach.over * next
 }

@@ -25,7 +25,7 @@ pub struct Terms {
 }
 
 // More than any figure: in the place of the word any.
-const UNLIMITED: u64 = 18_446_744_073_709_551_615;
+const UNLIMITED: u64 = u64::MAX;
 
 // No pair differences of a group's shares are greater: 256 members, and a total of 256,000,000.
 pub const MOST_PAIRS: u64 = 65_536_000_000;
@@ -52,10 +52,7 @@ fn squares_of(limit: Limit, count: u64, total: u64) -> u64
     let Limit::AtMost(most) = limit else {
         return UNLIMITED;
     };
-    if count == 0 {
-        return UNLIMITED;
-    }
-    if GREATEST_SPREAD < most {
+    if count == 0 || GREATEST_SPREAD < most {
         return UNLIMITED;
     }
     (most + total * total) / count

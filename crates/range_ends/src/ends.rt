@@ -1,5 +1,5 @@
 // The ends of a member's range: how far from its share plans give it values.
-ghost use Rattle.std.specs.Prelude.{true, ◌≡◌, ◌≤◌, ◌<◌};
+ghost use Rattle.std.specs.Prelude.{◌≤◌, ◌<◌, IfSome};
 ghost use Rattle.model.specs.Figures.{apart};
 ghost use Rattle.model.specs.Plans.{taken};
 ghost use Rattle.probe.specs.Inner.Probes.{Probeable, LastWithin, pinned_total};
@@ -11,8 +11,6 @@ ghost use Rattle.range_ends.specs.Inner.Known.{SharedHolds, RowOf, EdgeFound, En
 
 use crate::known::{Bracket, Shared, Way, noted};
 use model::Question;
-use model::levels::clamp;
-use model::numbers::apart;
 use probe::pinned::{Trial, into_reach, last_within};
 use probe::probing::{Tried, try_paired, try_value};
 use probe::terms::{MOST_PAIRS, Terms};
@@ -47,7 +45,7 @@ fn step_within(far: u64, inward: u64, tries: u64) -> u64
     if tries == 0 {
         return far / 2;
     }
-    clamp(1, far - 1, inward)
+    inward.clamp(1, far - 1)
 }
 
 // The value to try next, strictly between the two.
@@ -55,24 +53,17 @@ fn next_value(outer: u64, inner: u64, inward: u64, tries: u64) -> u64
     requires { 1 < apart outer inner }
     ensures { Amid outer inner result }
 {
-    let step = step_within(apart(outer, inner), inward, tries);
+    let step = step_within(outer.abs_diff(inner), inward, tries);
     if outer < inner {
         return outer + step;
     }
     outer - step
 }
 
-// One try fewer, where there is one.
-fn fewer(tries: u64) -> u64 {
-    if tries == 0 {
-        return 0;
-    }
-    tries - 1
-}
-
-// Tries a value between two others. What pairs are asked with is copied first: what a call is handed lies in memory, and a trial without
-// pairs is to stay out of it. That each caller has a function of its own lets the trial be compiled into both.
-fn try_between(
+// Tries a value, by pairs too where these are limited. What pairs are asked with is copied first: what a call is handed lies in memory,
+// and a trial without pairs is to stay out of it. It is compiled into both callers: as a call it makes narrowing a tenth slower.
+#[inline(always)]
+fn try_share(
     lows: &[u64],
     highs: &[u64],
     table: &[u64],
@@ -120,11 +111,10 @@ fn edge(
     let mut found = Bracket {
         inner: gap.inner,
         outer: gap.outer,
-        near: row,
+        near: None,
         far: row,
-        tried: false,
     };
-    while 1 < apart(found.outer, found.inner) {
+    while 1 < found.outer.abs_diff(found.inner) {
         let value = next_value(found.outer, found.inner, inward, tries);
         let trial = Trial {
             low,
@@ -132,14 +122,13 @@ fn edge(
             value,
             row,
         };
-        let tried = try_between(lows, highs, table, question, terms, trial);
+        let tried = try_share(lows, highs, table, question, terms, trial);
         inward = tried.inward;
         row = tried.row;
-        tries = fewer(tries);
+        tries = tries.saturating_sub(1);
         if tried.taken {
             found.inner = value;
-            found.near = row;
-            found.tried = true;
+            found.near = Some(row);
         } else {
             found.outer = value;
             found.far = row;
@@ -149,16 +138,16 @@ fn edge(
 }
 
 // The row of the inner value that a search came to: where that is the share itself, no trial has told it.
-fn inner_row(table: &[u64], terms: Terms, trial: Trial, found: Bracket) -> usize
+fn inner_row(table: &[u64], terms: Terms, trial: Trial, near: Option<usize>) -> usize
     requires probeable { Probeable table.now terms.last trial.low trial.high trial.value }
     requires value_bound { pinned_total (row_at table.now 0) trial.low trial.high trial.value ≤ terms.total }
-    requires last_within { found.tried ≡ true → LastWithin table.now terms.last trial.low trial.high trial.value terms.total found.near }
+    requires last_within { IfSome near (λ row. LastWithin table.now terms.last trial.low trial.high trial.value terms.total row) }
     ensures { LastWithin table.now terms.last trial.low trial.high trial.value terms.total result }
 {
-    if found.tried {
-        return found.near;
+    match near {
+        Some(row) => row,
+        None => last_within(table, terms.last, trial, terms.total),
     }
-    last_within(table, terms.last, trial, terms.total)
 }
 
 // The edge of a gap, with what is known afterwards.
@@ -178,7 +167,7 @@ fn edge_noted(
     ensures shared_holds_2 { SharedHolds lows.now highs.now question.total question.limits result.shared }
 {
     let member = gap.member;
-    let mut found = edge(lows, highs, table, question, terms, gap);
+    let found = edge(lows, highs, table, question, terms, gap);
     let low = lows[member];
     let high = highs[member];
     let trial = Trial {
@@ -187,40 +176,12 @@ fn edge_noted(
         value: found.inner,
         row: found.far,
     };
-    let near = inner_row(table, terms, trial, found);
-    found.near = near;
-    let was = gap.shared;
-    let shared = noted(table, terms.last, low, high, was, found);
+    let near = inner_row(table, terms, trial, found.near);
+    let shared = noted(table, terms.last, low, high, gap.shared, found, near);
     End {
         value: found.inner,
         shared,
     }
-}
-
-// Tries the value that a search begins with, in the same way.
-fn try_end(
-    lows: &[u64],
-    highs: &[u64],
-    table: &[u64],
-    question: Question,
-    terms: Terms,
-    trial: Trial,
-) -> Tried
-    requires { Triable lows.now highs.now table.now question.total question.limits terms trial.low trial.high trial.value }
-    ensures decides { Decides lows.now highs.now question.total question.limits trial.low trial.high trial.value result.taken }
-    ensures last_within { LastWithin table.now terms.last trial.low trial.high trial.value question.total result.row }
-{
-    if terms.pairs < MOST_PAIRS {
-        let asked = terms;
-        let same = trial;
-        let paired = try_paired(lows, highs, table, asked, same);
-        return Tried {
-            taken: paired.taken,
-            inward: paired.inward,
-            row: paired.row,
-        };
-    }
-    try_value(lows, highs, table, question, terms, trial)
 }
 
 // How far from the share to the end plans give the member values, by trials.
@@ -249,18 +210,16 @@ pub(crate) fn search(
         value,
         row,
     };
-    let tried = try_end(lows, highs, table, question, terms, trial);
+    let tried = try_share(lows, highs, table, question, terms, trial);
     let row = tried.row;
-    let was = way.shared;
     if tried.taken {
         let found = Bracket {
             inner: value,
             outer: value,
-            near: row,
+            near: Some(row),
             far: row,
-            tried: true,
         };
-        let shared = noted(table, last, low, high, was, found);
+        let shared = noted(table, last, low, high, way.shared, found, row);
         return End { value, shared };
     }
     let gap = Gap {
@@ -269,7 +228,7 @@ pub(crate) fn search(
         inner: way.share,
         inward: tried.inward,
         row,
-        shared: was,
+        shared: way.shared,
     };
     edge_noted(lows, highs, table, question, terms, gap)
 }

@@ -1,6 +1,6 @@
 // What one member's search tells of other members: whether a value is taken depends on the member's range only where it ends between
 // the levels of the rows concerned.
-ghost use Rattle.std.specs.Prelude.{true, ◌≡◌, ◌+◌, ◌*◌, ◌<◌, ◌≤◌, min, max, length};
+ghost use Rattle.std.specs.Prelude.{true, ◌≡◌, ◌+◌, ◌*◌, ◌<◌, ◌≤◌, length, IfSome};
 ghost use Rattle.model.specs.Shares.{greatest_share};
 ghost use Rattle.range_ends.specs.Inner.Known.{EndKnown, EdgeKnown, SeenTo, Noted};
 
@@ -43,85 +43,52 @@ pub(crate) struct Way {
 fn told(low: u64, high: u64, shared: Shared) -> bool
     ensures { result ≡ true → (low ≤ shared.under) × (shared.over ≤ high) }
 {
-    if shared.under < low {
-        return false;
-    }
-    shared.over <= high
+    low <= shared.under && shared.over <= high
 }
 
 // Whether the end lies between the share and a value that is known to be taken.
 fn end_known(low: u64, high: u64, way: Way) -> bool
     ensures { result ≡ true → EndKnown low high way.share way.end way.shared }
 {
-    if !told(low, high, way.shared) {
-        return false;
-    }
-    if way.end < way.share {
-        return way.shared.inner <= way.end;
-    }
-    way.end <= way.shared.inner
+    let within = if way.end < way.share {
+        way.shared.inner <= way.end
+    } else {
+        way.end <= way.shared.inner
+    };
+    told(low, high, way.shared) && within
 }
 
 // Whether two different values lie between two others, all in order.
 fn in_order(first: u64, second: u64, third: u64, fourth: u64) -> bool
     ensures { result ≡ true → (first ≤ second) × (second < third) × (third ≤ fourth) }
 {
-    if second < first {
-        return false;
-    }
-    if third <= second {
-        return false;
-    }
-    third <= fourth
+    first <= second && second < third && third <= fourth
 }
 
 // Whether a known edge lies between the share and the end.
 fn edge_known(low: u64, high: u64, way: Way) -> bool
     ensures { result ≡ true → EdgeKnown low high way.share way.end way.shared }
 {
-    if !told(low, high, way.shared) {
-        return false;
-    }
-    if way.end < way.share {
-        return in_order(way.end, way.shared.outer, way.shared.inner, way.share);
-    }
-    in_order(way.share, way.shared.inner, way.shared.outer, way.end)
+    let between = if way.end < way.share {
+        in_order(way.end, way.shared.outer, way.shared.inner, way.share)
+    } else {
+        in_order(way.share, way.shared.inner, way.shared.outer, way.end)
+    };
+    told(low, high, way.shared) && between
 }
 
-// How far from the share to the end plans give a member values, where that needs no trial.
-#[derive(Clone, Copy)]
-pub(crate) struct Seen {
-    pub(crate) known: bool,
-    pub(crate) value: u64,
-}
-
-// What is known of the end: some plan gives the share itself, and others' searches tell the rest.
-pub(crate) fn seen_at(low: u64, high: u64, way: Way) -> Seen
-    ensures { result.known ≡ true → SeenTo low high way.share way.end way.shared result.value }
+// How far from the share to the end plans give a member values, where that needs no trial: some plan gives the share itself, and others'
+// searches tell the rest.
+pub(crate) fn seen_at(low: u64, high: u64, way: Way) -> Option<u64>
+    ensures { IfSome result (λ value. SeenTo low high way.share way.end way.shared value) }
 {
-    let end = way.end;
-    if end == way.share {
-        return Seen {
-            known: true,
-            value: end,
-        };
-    }
-    if end_known(low, high, way) {
-        return Seen {
-            known: true,
-            value: end,
-        };
+    if way.end == way.share || end_known(low, high, way) {
+        return Some(way.end);
     }
     if edge_known(low, high, way) {
-        return Seen {
-            known: true,
-            value: way.shared.inner,
-        };
+        return Some(way.shared.inner);
     }
-    Seen {
-        known: false,
-        value: end,
-    }
+    None
 }
 
 // A value that some plan gives a member and one that none gives it, or the same again. Near is the row found for inner, where it
@@ -130,32 +97,12 @@ pub(crate) fn seen_at(low: u64, high: u64, way: Way) -> Seen
 pub(crate) struct Bracket {
     pub(crate) inner: u64,
     pub(crate) outer: u64,
-    pub(crate) near: usize,
+    pub(crate) near: Option<usize>,
     pub(crate) far: usize,
-    pub(crate) tried: bool,
 }
 
-// The lesser of two rows.
-fn lesser(a: usize, b: usize) -> usize
-    ensures { result ≡ min a b }
-{
-    if a <= b {
-        return a;
-    }
-    b
-}
-
-// The greater of two rows.
-fn greater(a: usize, b: usize) -> usize
-    ensures { result ≡ max a b }
-{
-    if a <= b {
-        return b;
-    }
-    a
-}
-
-// What is known after values of a member with this low and high were found: they serve others where the range reaches over both rows.
+// What is known after values of a member with this low and high were found, near being the row of the inner one: they serve others
+// where the range reaches over both rows.
 pub(crate) fn noted(
     table: &[u64],
     last: usize,
@@ -163,15 +110,16 @@ pub(crate) fn noted(
     high: u64,
     was: Shared,
     found: Bracket,
+    near: usize,
 ) -> Shared
     requires { (7 * last + 7 ≤ length table.now) × (last ≤ 512) }
-    ensures { Noted table.now last low high was found result }
+    ensures { Noted table.now last low high was found near result }
 {
-    let top = greater(found.near, found.far);
+    let top = near.max(found.far);
     if last <= top {
         return was;
     }
-    let under = read_row(table, lesser(found.near, found.far)).mark;
+    let under = read_row(table, near.min(found.far)).mark;
     if under < low {
         return was;
     }

@@ -6,15 +6,15 @@ ghost use Rattle.range_ends.specs.Inner.Members.{narrowed_ends, Narrowable};
 use crate::ends::search;
 use crate::known::{Way, nothing_known, seen_at};
 use model::Question;
-use model::levels::{clamp, extra};
-use probe::probing::Levelled;
+use model::levels::extra;
+use probe::probing::GroupLevel;
 use probe::terms::Terms;
 
 // What a turn asks of every member: its terms, where the levelled shares are, and whether highs are asked for or lows.
 #[derive(Clone, Copy)]
 pub struct EndsAsked {
     pub terms: Terms,
-    pub levelled: Levelled,
+    pub levelled: GroupLevel,
     pub up: bool,
 }
 
@@ -49,13 +49,8 @@ pub fn narrow_ends(
     // Whoever gets the copies left over, the figures are the same: a member that can take one may have it, or may not.
     let copies = end_of(0, asked.levelled.over, up);
     let mut shared = nothing_known();
-    let mut next: usize = 0;
-    while next < lows.len() {
-        let member = next;
-        next += 1;
-        let low = lows[member];
-        let high = highs[member];
-        let share = clamp(low, high, v) + extra(low, high, v, copies);
+    for (member, (&low, &high)) in lows.iter().zip(highs).enumerate() {
+        let share = v.clamp(low, high) + extra(low, high, v, copies);
         let end = end_of(low, high, up);
         let way = Way {
             member,
@@ -64,10 +59,9 @@ pub fn narrow_ends(
             row,
             shared,
         };
-        let seen = seen_at(low, high, way);
         // What only a search needs is handed over there alone.
-        if seen.known {
-            ends[member] = seen.value;
+        if let Some(value) = seen_at(low, high, way) {
+            ends[member] = value;
         } else {
             let found = search(lows, highs, table, question, terms, way);
             ends[member] = found.value;

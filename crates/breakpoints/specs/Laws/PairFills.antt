@@ -104,14 +104,6 @@ module _ {lows highs starts start : List ℕ} (sound : SoundRanges lows highs) (
         },
       )
 
--- so far of some table
-pub record PairsFilled (lows highs starts table : List ℕ) (last k : ℕ) (row : Row) (here : PairRow) : Type 0 where
-  pub start : List ℕ
-  pub held : Breakpoints lows highs start
-  pub passed : Passed starts start
-  pub filled : PairsTo lows highs start table k row here
-  pub ended : last ≡ last_row start
-
 -- the sorted lows are what the first row's numbers are asked of
 pub starts_sorted : {lows highs starts : List ℕ} → SoundRanges lows highs → Ordered (length lows) lows starts
     → Rising (length starts) starts × (length starts ≤ most_units) × (sum starts ≤ greatest_total)

@@ -5,7 +5,7 @@ use Rattle.model.specs.Figures.{deviation}
 use Rattle.model.specs.Ways.{topped}
 use Rattle.model.specs.Plans.{has_plan}
 use Rattle.model.specs.declared.Limits.{Limits}
-use Rattle.probe.specs.declared.probing.Levelled.{Levelled}
+use Rattle.probe.specs.declared.probing.GroupLevel.{GroupLevel}
 use Rattle.probe.specs.declared.probing.Pinned.{Pinned}
 use Rattle.probe.specs.declared.terms.Terms.{Terms}
 use Rattle.breakpoints.specs.Inner.Distances.{most_pairs, Paired}
@@ -70,7 +70,7 @@ pub record Judged (lows highs : List ℕ) (total : ℕ) (limits : Limits) (terms
   pub allowed : taken ≡ true → most_pairs ≤ terms.pairs → Decides lows highs total limits low high v true
 
 -- a level with copies left over that gives the group its total, the row below it, and whether the group has a plan within whatever limits the terms are of
-pub record LevelledOn (lows highs table : List ℕ) (terms : Terms) (at : Levelled) : Type 0 where
+pub record LevelledOn (lows highs table : List ℕ) (terms : Terms) (at : GroupLevel) : Type 0 where
   pub found : LastWithin table terms.last 0 0 0 terms.total at.row
   pub mark : ℕ
   pub moving : ℕ

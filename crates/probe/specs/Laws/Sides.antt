@@ -62,6 +62,15 @@ module _ (n total : ℕ) where
   pub below_small : total ≤ greatest_part → (x : ℕ) → below_mean n total x ≤ greatest_part
   below_small small x = omega arith
 
+  -- and so is what all bounds have on either side
+  pub bounds_small : {lows highs : List ℕ} → SoundWithTotal lows highs total → n ≤ most_units
+      → (sum_of (above_mean n total) lows ≤ most_units * greatest_part) × (sum_of (below_mean n total) highs ≤ most_units * greatest_part)
+  bounds_small {lows} {highs} sound few =
+      let above : sum_of (above_mean n total) lows ≤ length lows * greatest_part =
+      sum_of_bound _ _ lows (λ i here. above_small few _ (omega (arith, ranges_at sound.ranges i here))) in
+      let below : sum_of (below_mean n total) highs ≤ length highs * greatest_part = sum_of_bound _ _ highs (λ i here. below_small (omega (arith, sound.small)) _) in
+      (omega (arith, above, sound.few), omega (arith, below, sound.few, sound.paired))
+
 -- what is told of one side, and what the shares add up to there, in plain numbers
 half : {r own own' sides sides' : ℕ} (parts value more : ℕ) → r + own ≡ sides + (value + more)
     → parts + own' ≡ sides' + (value + more) → own' ≡ own → sides ≡ sides' → r ≡ parts
@@ -130,13 +139,8 @@ module _ {lows highs table lows' highs' : List ℕ} {mark : ℕ} {terms : Terms}
   -- the sums are small, and the member's own part is in them
   pub halving : reach.over ≤ most_units → Halving terms trial reach
   halving few_over = record {
-    above_small =
-        let all : sum_of (above_mean n total) lows ≤ length lows * greatest_part = sum_of_bound _ _ lows (λ i here.
-        above_small n total few _ (omega (arith, ranges_at sound.ranges i here))) in
-        omega (arith, held.lows_above, sound.few);
-    below_small =
-        let all : sum_of (below_mean n total) highs ≤ length highs * greatest_part = sum_of_bound _ _ highs (λ i here. below_small n total (omega (arith, sound.small)) _) in
-        omega (arith, held.highs_below, sound.few, sound.paired);
+    above_small = omega (arith, held.lows_above, (bounds_small n total sound few).0);
+    below_small = omega (arith, held.highs_below, (bounds_small n total sound few).1);
     low_share = omega (arith, pin.ordered, pin.highest);
     high_share = pin.highest;
     value_share = pin.value;

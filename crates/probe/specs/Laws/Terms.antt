@@ -6,7 +6,7 @@ use Rattle.std.proofs.lemmas.Bool.{lt-leb}
 use Rattle.model.specs.Figures.{allows}
 use Rattle.model.specs.Plans.{has_plan}
 use Rattle.model.specs.Shares.{most_units, greatest_total}
-use Rattle.probe.specs.declared.probing.Levelled.{Levelled}
+use Rattle.probe.specs.declared.probing.GroupLevel.{GroupLevel}
 use Rattle.probe.specs.declared.terms.Terms.{Terms}
 use Rattle.model.specs.declared.Limit.{Limit}
 use Rattle.model.specs.declared.Limit.TheVariants.{Any, AtMost}
@@ -121,7 +121,7 @@ module _ {lows highs table : List ℕ} {total : ℕ} {limits : Limits} {terms : 
   reach_told moved = rw (termed.group.ended, termed.totals) at moved
 
 -- what is found of the group itself, with the total and the limits that the terms are of
-module _ {lows highs table : List ℕ} {total : ℕ} {limits : Limits} {terms : Terms} {at : Levelled} (termed : Termed lows highs table total limits terms)
+module _ {lows highs table : List ℕ} {total : ℕ} {limits : Limits} {terms : Terms} {at : GroupLevel} (termed : Termed lows highs table total limits terms)
     (on : LevelledOn lows highs table terms at) where
   pub level_reached : Reached lows highs total on.mark on.moving at.level at.over
   level_reached = rw termed.totals at on.reached

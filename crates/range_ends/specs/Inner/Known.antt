@@ -1,5 +1,5 @@
 -- What one member's search tells of other members. Assumes nothing.
-use Rattle.std.specs.Prelude.{ℕ, suc, ◌≤◌, ◌<◌, min, max, Bool, true, false, List, ◌≢◌, ◌≡◌, length, get_or}
+use Rattle.std.specs.Prelude.{ℕ, suc, ◌≤◌, ◌<◌, min, max, Bool, true, false, List, ◌≢◌, ◌≡◌, length, get_or, IfSome}
 use Rattle.model.specs.Shares.{greatest_share}
 use Rattle.model.specs.Figures.{apart}
 use Rattle.model.specs.Plans.{taken}
@@ -43,20 +43,21 @@ pub data SeenTo (low high share end : ℕ) (shared : Shared) : ℕ → Type 0 wh
   within : EndKnown low high share end shared → SeenTo low high share end shared end
   before : end ≢ share → EdgeKnown low high share end shared → SeenTo low high share end shared shared.inner
 
--- what was found of a member with this low and high serves others from the level of the first row to that after the last one
-pub record Serves (table : List ℕ) (last low high : ℕ) (found : Bracket) (r : Shared) : Type 0 where
-  pub follows : max found.near found.far < last
-  pub under : r.under ≡ (row_at table (min found.near found.far)).mark
-  pub over : r.over ≡ (row_at table (suc (max found.near found.far))).mark
+-- what was found of a member with this low and high serves others from the level of the first row to that after the last one;
+-- near is the row found for inner
+pub record Serves (table : List ℕ) (last low high : ℕ) (found : Bracket) (near : ℕ) (r : Shared) : Type 0 where
+  pub follows : max near found.far < last
+  pub under : r.under ≡ (row_at table (min near found.far)).mark
+  pub over : r.over ≡ (row_at table (suc (max near found.far))).mark
   pub from : low ≤ r.under
   pub up_to : r.over ≤ high
   pub inner : r.inner ≡ found.inner
   pub outer : r.outer ≡ found.outer
 
 -- it serves them, or what was known stays
-pub data Noted (table : List ℕ) (last low high : ℕ) (was : Shared) (found : Bracket) (r : Shared) : Type 0 where
-  stays : r ≡ was → Noted table last low high was found r
-  serves : Serves table last low high found r → Noted table last low high was found r
+pub data Noted (table : List ℕ) (last low high : ℕ) (was : Shared) (found : Bracket) (near : ℕ) (r : Shared) : Type 0 where
+  stays : r ≡ was → Noted table last low high was found near r
+  serves : Serves table last low high found near r → Noted table last low high was found near r
 
 -- the row found for a value of member i
 abbrev pub RowOf : List ℕ → List ℕ → List ℕ → ℕ → ℕ → ℕ → ℕ → Type 0
@@ -67,7 +68,7 @@ pub record Bracketed (lows highs table : List ℕ) (total : ℕ) (limits : Limit
   pub straddle : Straddle (taken lows highs total limits i) outside inside found.outer found.inner
   pub search : Search lows highs table total limits i found.outer found.inner
   pub outer_row : RowOf lows highs table total i found.outer found.far
-  pub inner_row : found.tried ≡ true → RowOf lows highs table total i found.inner found.near
+  pub inner_row : IfSome found.near (λ near. RowOf lows highs table total i found.inner near)
 
 -- a search that is over
 pub record EdgeFound (lows highs table : List ℕ) (total : ℕ) (limits : Limits) (i outside inside : ℕ) (found : Bracket) : Type 0 where

@@ -1,5 +1,5 @@
 -- What was found for one member holds for every member whose range reaches as far. Assumes nothing.
-use Rattle.std.specs.Prelude.{ℕ, zero, suc, ◌+◌, ◌≤◌, ◌<◌, min, max, Bool, true, false, List, ◌≢◌, ◌≡◌, refl, length, get_or}
+use Rattle.std.specs.Prelude.{ℕ, zero, suc, ◌+◌, ◌≤◌, ◌<◌, min, max, Bool, true, false, List, ◌≢◌, ◌≡◌, refl, length, get_or, Some}
 use Rattle.std.proofs.Common.{sym, ap, ◌∙◌, arith}
 use Rattle.std.proofs.Math.Decide.{dec_lt}
 use Rattle.std.proofs.Math.Nat.{le_dest}
@@ -84,22 +84,22 @@ pub rows_rise : {lows highs table : List ℕ} → Breakpoints lows highs table �
 rows_rise held a b less up_to = let (steps, is) = le_dest less in marks_rise held steps a b is up_to
 
 module _ {lows highs table : List ℕ} {total : ℕ} {limits : Limits} (tabled : Tabled lows highs total limits table) {i : ℕ} (here : i < length lows)
-    {was : Shared} {found : Bracket} (known : SharedHolds lows highs total limits was)
+    {was : Shared} {found : Bracket} {near : ℕ} (known : SharedHolds lows highs total limits was)
     (outcomes : Outcomes (taken lows highs total limits i) found.inner found.outer) (small : found.outer ≤ greatest_share)
-    (inner_row : RowOf lows highs table total i found.inner found.near)
+    (inner_row : RowOf lows highs table total i found.inner near)
     (outer_row : RowOf lows highs table total i found.outer found.far) where
-  module _ {r : Shared} (serves : Serves table (last_row table) (get_or lows i 0) (get_or highs i 0) found r) where
+  module _ {r : Shared} (serves : Serves table (last_row table) (get_or lows i 0) (get_or highs i 0) found near r) where
     -- a range that reaches from under to over reaches over the rows between
-    covers : {low high : ℕ} → low ≤ r.under → r.over ≤ high → (k : ℕ) → min found.near found.far ≤ k → k ≤ max found.near found.far
+    covers : {low high : ℕ} → low ≤ r.under → r.over ≤ high → (k : ℕ) → min near found.far ≤ k → k ≤ max near found.far
         → Covers table k low high
     covers from up_to k first top = record {
-      under = omega (arith, serves.under, rows_rise tabled.held (min found.near found.far) k first (omega (arith, serves.follows)));
-      over = omega (arith, serves.over, rows_rise tabled.held (suc k) (suc (max found.near found.far)) (omega arith) serves.follows);
+      under = omega (arith, serves.under, rows_rise tabled.held (min near found.far) k first (omega (arith, serves.follows)));
+      over = omega (arith, serves.over, rows_rise tabled.held (suc k) (suc (max near found.far)) (omega arith) serves.follows);
     }
 
     -- so that a value with such a row has one outcome
     same_outcome : (j : ℕ) → j < length lows → get_or lows j 0 ≤ r.under → r.over ≤ get_or highs j 0
-        → (v k : ℕ) → v ≤ greatest_share → RowOf lows highs table total i v k → min found.near found.far ≤ k → k ≤ max found.near found.far
+        → (v k : ℕ) → v ≤ greatest_share → RowOf lows highs table total i v k → min near found.far ≤ k → k ≤ max near found.far
         → taken lows highs total limits i v ≡ taken lows highs total limits j v
     same_outcome j below from up_to v k share row first top =
         alike tabled.sound tabled.held (omega (arith, serves.follows))
@@ -109,7 +109,7 @@ module _ {lows highs table : List ℕ} {total : ℕ} {limits : Limits} (tabled :
     serve_known : SharedHolds lows highs total limits r
     serve_known = record {
       of = λ j below from up_to.
-          let inner_same = same_outcome j below from up_to found.inner found.near outcomes.small inner_row (omega arith) (omega arith) in
+          let inner_same = same_outcome j below from up_to found.inner near outcomes.small inner_row (omega arith) (omega arith) in
           let outer_same = same_outcome j below from up_to found.outer found.far small outer_row (omega arith) (omega arith) in
           rw (serves.inner, serves.outer) (record {
             small = outcomes.small;
@@ -120,7 +120,7 @@ module _ {lows highs table : List ℕ} {total : ℕ} {limits : Limits} (tabled :
     }
 
   -- what is noted is known
-  pub noted_known : {r : Shared} → Noted table (last_row table) (get_or lows i 0) (get_or highs i 0) was found r → SharedHolds lows highs total limits r
+  pub noted_known : {r : Shared} → Noted table (last_row table) (get_or lows i 0) (get_or highs i 0) was found near r → SharedHolds lows highs total limits r
   noted_known (Noted.stays same) = rw same known
   noted_known (Noted.serves serves) = serve_known serves
 
@@ -132,7 +132,7 @@ found_edge {found = found} over = record { outer = found.outer; straddle = over.
 -- which, with the row of its inner value, serves others
 pub found_known : {lows highs table : List ℕ} {total : ℕ} {limits : Limits} {i outside inside k : ℕ} {found : Bracket} {was r : Shared}
     → EdgeFound lows highs table total limits i outside inside found → RowOf lows highs table total i found.inner k → SharedHolds lows highs total limits was
-    → Noted table (last_row table) (get_or lows i 0) (get_or highs i 0) was (record { inner = found.inner; outer = found.outer; near = k; far = found.far; tried = found.tried }) r
+    → Noted table (last_row table) (get_or lows i 0) (get_or highs i 0) was found k r
     → SharedHolds lows highs total limits r
 found_known over row known noted =
     let at = over.bracketed in
@@ -145,7 +145,7 @@ found_known over row known noted =
 pub trial_known : {lows highs table : List ℕ} {total : ℕ} {limits : Limits} {i v k : ℕ} {was r : Shared}
     → Tabled lows highs total limits table → i < length lows → SharedHolds lows highs total limits was
     → v ≤ greatest_share → taken lows highs total limits i v ≡ true → RowOf lows highs table total i v k
-    → Noted table (last_row table) (get_or lows i 0) (get_or highs i 0) was (record { inner = v; outer = v; near = k; far = k; tried = true }) r
+    → Noted table (last_row table) (get_or lows i 0) (get_or highs i 0) was (record { inner = v; outer = v; near = Some k; far = k }) k r
     → SharedHolds lows highs total limits r
 trial_known tabled here known small passes row noted =
     noted_known tabled here known (record { small = small; passes = passes; near = omega arith; fails = λ other. absurd (other refl) }) small row row noted

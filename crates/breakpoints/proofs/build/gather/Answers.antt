@@ -1,43 +1,39 @@
--- The bounds of the members passed, as far as these have several values, are at the front of both lists. Assumes nothing.
-use native.Mathlib.Omega.{arith}
-use Prim.Native.Nat.{◌+◌}
-use lib.ListN.{get_or, set}
-use Rattle.breakpoints.specs.Laws.Kept.{Sifted, sifted_none, sifted_step, sifted_all, kept_several}
+-- What is kept of the members left is kept of all with the bounds in front of both lists. Assumes nothing.
+use Rattle.std.proofs.Common.{rules, ◌≡◌, ◌+◌, ◌<◌, ℕ, List, [], ◌∷◌, ◌++◌, length, take, set, nat_lt, arith, ap, append_assoc, append-nil, lt-ltb, le-ltb}
+use Rattle.std.proofs.Math.Decide.{dec_lt}
+use Rattle.std.proofs.lemmas.List.{nil_from_length, take-set, take_more_set}
+use mir.Val.{bool_byte}
+use Rattle.breakpoints.specs.Inner.Kept.{Kept}
 use Rattle.breakpoints.proofs.build.gather.Goals as goal
-use Rattle.breakpoints.proofs.build.gather.Goals.{After-one_if_several-count}
 
-pub loop-i-init : goal.loop-i-init
-loop-i-init c =
-    (omega arith, sifted_none _ _ _ _ c.requires.starts_len, sifted_none _ _ _ _ c.requires.stops_len)
+-- a member's bounds are put where the lists have come to, which go on past them where they differ
+module _ {lows highs ls hs : List ℕ} (starts stops : List ℕ) {l h count more : ℕ} (is : more ≡ bool_byte (nat_lt l h)) (p : count < length starts) (q : count < length stops)
+    (kept : (ks gs : List ℕ) → Kept (l ∷ ls) (h ∷ hs) ks gs → Kept lows highs (take count starts ++ ks) (take count stops ++ gs)) where
+  put : (ks gs : List ℕ) → Kept ls hs ks gs → Kept lows highs (take (count + more) (set starts count l) ++ ks) (take (count + more) (set stops count h) ++ gs)
+  put ks gs left = elim (dec_lt l h) [
+    | yes wide ↦
+        let one : more ≡ 1 = rw (lt-ltb l h wide) at is in
+        rw (one, take_more_set starts count l p, take_more_set stops count h q) (simp append_assoc (kept (l ∷ ks) (h ∷ gs) (Kept.along left)))
+    | no single ↦
+        let none : count + more ≡ count = omega (arith, rw (le-ltb l h (omega arith)) at is) in
+        rw (none, take-set starts count l, take-set stops count h) (kept ks gs (Kept.single (omega arith) left))
+  ]
 
-pub bounds-starts-count : goal.bounds-starts-count
-bounds-starts-count c = let inv = c.loop-i.invariant in omega (arith, inv.1.few, inv.1.size)
+none-left : {lows highs : List ℕ} → length lows ≡ 0 → length highs ≡ 0 → Kept lows highs [] []
+none-left {lows} {highs} p q = rw (nil_from_length lows p, nil_from_length highs q) Kept.none
 
-pub bounds-highs-i : goal.bounds-highs-i
-bounds-highs-i c = omega (arith, c.requires.sound_ranges.paired)
+pub loop-low-preserved : goal.loop-low-preserved
+loop-low-preserved c =
+    let inv = c.loop-low.invariant in
+    let (lows, highs) = c.in-Some.ensures.steps in
+    record {
+      paired = omega (arith, inv.paired, ap length lows, ap length highs);
+      few = search rules;
+      kept = put _ _ c.from-count.ensures (omega (arith, inv.few, ap length lows)) (omega (arith, inv.few, ap length lows)) (rw (lows, highs) at inv.kept);
+    }
 
-pub bounds-stops-count : goal.bounds-stops-count
-bounds-stops-count c = let inv = c.loop-i.invariant in omega (arith, inv.2.few, inv.2.size)
-
-pub bounds-highs-i-in-loop-i : goal.bounds-highs-i-in-loop-i
-bounds-highs-i-in-loop-i c = omega (arith, c.requires.sound_ranges.paired)
-
--- one member more is passed
-module _ (c : After-one_if_several-count) where
-  next-starts : Sifted c.args.lows.now c.args.highs.now c.args.lows.now
-      (set c.loop-i.starts c.loop-i.count (get_or c.args.lows.now c.loop-i.i 0)) (c.loop-i.count + c.one_if_several-count.result) (c.loop-i.i + 1)
-  next-starts = sifted_step c.loop-i.invariant.1 (omega arith) (omega (arith, c.requires.sound_ranges.paired)) (omega arith) _ c.one_if_several-count.ensures
-
-  next_stops : Sifted c.args.lows.now c.args.highs.now c.args.highs.now
-      (set c.loop-i.stops c.loop-i.count (get_or c.args.highs.now c.loop-i.i 0)) (c.loop-i.count + c.one_if_several-count.result) (c.loop-i.i + 1)
-  next_stops = sifted_step c.loop-i.invariant.2 (omega arith) (omega (arith, c.requires.sound_ranges.paired)) (omega (arith, c.requires.sound_ranges.paired)) _ c.one_if_several-count.ensures
-
-pub overflow_add-count : goal.overflow_add-count
-overflow_add-count c = omega (arith, (next-starts c).few)
-
-pub loop-i-preserved : goal.loop-i-preserved
-loop-i-preserved c = (omega arith, next-starts c, next_stops c)
-
-pub returns : goal.returns
-returns c = let inv = c.loop-i.invariant in
-    let ended = c.loop-i-test.false in record { upper_bound = omega (arith, inv.1.few); kept = rw (sifted_all ended inv.1, sifted_all ended inv.2) (kept_several c.requires.sound_ranges.ranges) }
+pub returns-clause-kept : goal.returns-clause-kept
+returns-clause-kept c =
+    let inv = c.loop-low.invariant in
+    let ended : length c.loop-low.low-iterator.a.rest.now ≡ 0 = grind (arith, c.in-None.ensures.steps, inv.paired) in
+    simp append-nil at (inv.kept [] [] (none-left ended (omega (arith, inv.paired, ended))))

@@ -1,12 +1,12 @@
--- The bounds of the members passed, as far as these have several values, are at the front of both lists. Assumes nothing.
-use Prim.Native.Nat.{◌-◌, ◌≤◌}
-use lib.ListN.{length}
-use Rattle.breakpoints.specs.Laws.Kept.{Sifted}
+-- What is kept of the members left is kept of all with the bounds in front of both lists. Assumes nothing.
+use Rattle.std.proofs.Common.{◌≡◌, ◌+◌, ◌≤◌, List, ℕ, ◌++◌, length, take}
+use Rattle.breakpoints.specs.Inner.Kept.{Kept}
 use Rattle.breakpoints.proofs.build.gather.Given as goal
 
-abbrev pub invariant-loop-i : goal.invariant-loop-i
-invariant-loop-i l =
-    (l.i ≤ length l.lows) × Sifted l.lows l.highs l.lows l.starts l.count l.i × Sifted l.lows l.highs l.highs l.stops l.count l.i
-
-abbrev pub decreases-loop-i : goal.decreases-loop-i
-decreases-loop-i l = length l.lows - l.i
+abbrev pub invariant-loop-low : goal.invariant-loop-low
+invariant-loop-low l = record {
+  paired : length l.low-iterator.b.rest.now ≡ length l.low-iterator.a.rest.now;
+  few : l.count + length l.low-iterator.a.rest.now ≤ length l.lows;
+  kept : (lows highs : List ℕ) → Kept l.low-iterator.a.rest.now l.low-iterator.b.rest.now lows highs
+      → Kept l.lows l.highs (take l.count l.starts ++ lows) (take l.count l.stops ++ highs);
+}

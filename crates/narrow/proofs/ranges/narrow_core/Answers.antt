@@ -1,5 +1,5 @@
 -- Without shares the answer is 11; else it goes by whether there is a plan. Assumes nothing.
-use mathlib.Core.Path.{refl, sym, ◌∙◌}
+use Rattle.std.proofs.Common.{refl, sym, ◌∙◌}
 use Rattle.model.specs.Plans.{turn_of}
 use Rattle.model.specs.Sound.{HasShares}
 use Rattle.model.proofs.Laws.Sound.{has_shares_lem}

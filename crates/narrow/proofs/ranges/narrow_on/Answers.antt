@@ -1,8 +1,6 @@
 -- With a plan both lists are narrowed. Assumes nothing.
-use borrow.Author.Tests.{not-true, not-false}
-use native.Mathlib.Omega.{arith}
-use mathlib.Core.Bool.{Bool}
-use mathlib.Core.Path.{refl, sym, ◌∙◌}
+use Rattle.std.proofs.Common.{arith, Bool, refl, sym, ◌∙◌}
+use Rattle.std.proofs.lemmas.Bool.{not-true, not-false}
 use Rattle.probe.specs.Laws.Reaching.{shares_lookable}
 use Rattle.probe.specs.Laws.Terms.{level_reached, level_planned, pairs_limited}
 use Rattle.range_ends.specs.Inner.Members.{Narrowable}

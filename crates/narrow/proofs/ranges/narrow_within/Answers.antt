@@ -1,8 +1,5 @@
 -- Arrays with room for every group have room for this one. Assumes nothing.
-use mathlib.Core.Path.{sym}
-use Prim.Native.Nat.{◌≤◌}
-use lib.ListN.{length}
-use lib.Seq.{length-take-le}
+use Rattle.std.proofs.Common.{sym, ◌≤◌, length, length-take-le}
 use Rattle.narrow.proofs.ranges.narrow_within.Goals as goal
 use Rattle.narrow.proofs.ranges.narrow_within.Goals.{Start}
 

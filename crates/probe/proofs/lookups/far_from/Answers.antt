@@ -8,7 +8,7 @@ overflow_add-result c =
     let sound = c.requires.pair_lookable.sound in
     let there = distances_small sound.ranges sound.few c.requires.level_le_greatest_share.1 c.distances_on-there.ensures in
     let here = distances_small sound.ranges sound.few c.requires.level_le_greatest_share.0 c.requires.distances_at in
-    omega (arith, c.apart.ensures, there.0, there.1, here.0)
+    omega (arith, c.abs_diff.ensures, there.0, there.1, here.0)
 
 pub returns : goal.returns
-returns c = far_told c.requires.pair_lookable.sound.ranges c.requires.distances_at c.distances_on-there.ensures c.apart.ensures
+returns c = far_told c.requires.pair_lookable.sound.ranges c.requires.distances_at c.distances_on-there.ensures c.abs_diff.ensures

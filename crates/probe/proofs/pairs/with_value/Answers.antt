@@ -31,7 +31,7 @@ pub overflow_sub-result : goal.overflow_sub-result
 overflow_sub-result c = omega (arith, told (goal.at.overflow_sub-result c).After-far_from-far c.requires.asked.pin refl)
 
 pub overflow_sub-result-2 : goal.overflow_sub-result-2
-overflow_sub-result-2 c = omega (arith, told (goal.at.overflow_sub-result-2 c).After-far_from-far c.requires.asked.pin c.apart.ensures)
+overflow_sub-result-2 c = omega (arith, told (goal.at.overflow_sub-result-2 c).After-far_from-far c.requires.asked.pin c.abs_diff.ensures)
 
 pub returns : goal.returns
-returns c = record { is = λ pin. omega (arith, told (goal.at.returns c).After-far_from-far pin c.apart.ensures) }
+returns c = record { is = λ pin. omega (arith, told (goal.at.returns c).After-far_from-far pin c.abs_diff.ensures) }

@@ -1,6 +1,5 @@
 -- What is found is within the terms, pairs last, exactly where the group with a member pinned to the value has a plan. Assumes nothing.
-use Rattle.std.proofs.Common.{◌≡◌, ℕ, refl, sym, ap, ◌∙◌, leb, le-leb}
-use Rattle.std.proofs.lemmas.Bool.{lt-leb}
+use Rattle.std.proofs.Common.{◌≡◌, ℕ, refl, sym, ap, ◌∙◌, leb}
 use Rattle.probe.specs.Inner.Verdicts.{DecidesFor}
 use Rattle.probe.specs.Laws.Terms.{row_findable}
 use Rattle.probe.specs.Laws.Verdicts.{decides, pairs_asked, refused_so, met_so}
@@ -30,9 +29,8 @@ by_pairs c told = record {
   };
 }
 
-pub returns-then-pairs-terms-clause-decides_for : goal.returns-then-pairs-terms-clause-decides_for
-returns-then-pairs-terms-clause-decides_for c =
-    by_pairs (goal.at.returns-then-pairs-terms-clause-decides_for c).After-pinned_pairs-pairs (le-leb _ _ c.if-pairs-terms.true)
+pub returns-then-taken-clause-decides_for : goal.returns-then-taken-clause-decides_for
+returns-then-taken-clause-decides_for c = by_pairs (goal.at.returns-then-taken-clause-decides_for c).After-pinned_pairs-pairs refl
 
-pub returns-clause-decides_for : goal.returns-clause-decides_for
-returns-clause-decides_for c = by_pairs (goal.at.returns-clause-decides_for c).After-pinned_pairs-pairs (lt-leb _ _ c.if-pairs-terms.false)
+pub returns-else-taken-clause-decides_for : goal.returns-else-taken-clause-decides_for
+returns-else-taken-clause-decides_for c = by_pairs (goal.at.returns-else-taken-clause-decides_for c).After-pinned_pairs-pairs refl

@@ -1,63 +1,65 @@
 -- Both bounds are shares, and no sum grows past what all bounds add up to. Assumes nothing.
-use Rattle.std.proofs.Common.{ℕ, ◌+◌, ◌*◌, ◌≤◌, ◌<◌, List, length, get_or, mul-le-mul, arith}
-use Rattle.model.specs.Shares.{greatest_share, sum_of}
-use Rattle.model.proofs.Laws.Lists.{ranges_at}
-use Rattle.model.proofs.Laws.Spread.{sum_of_bound}
-use Rattle.breakpoints.specs.Inner.Tables.{SoundWithTotal, greatest_part}
-use Rattle.breakpoints.specs.Laws.Sums.{Added, added_one, added_all}
+use Rattle.std.proofs.Common.{◌≡◌, ℕ, ◌+◌, ◌≤◌, List, ◌∷◌, length, mul-le-mul, arith}
+use Rattle.std.proofs.lemmas.List.{nil_from_length}
+use Rattle.model.specs.Shares.{Ranges, greatest_share, sum_of}
+use Rattle.model.proofs.Laws.Lists.{ranges_length}
 use Rattle.probe.specs.Inner.Sides.{above_mean, below_mean}
-use Rattle.probe.specs.Laws.Sides.{above_small, below_small}
+use Rattle.probe.specs.Laws.Sides.{bounds_small}
 use Rattle.probe.proofs.sides.both_sides.Goals as goal
+use Rattle.probe.proofs.sides.both_sides.Goals.{In-Some}
 
-module _ {lows highs : List ℕ} {total : ℕ} (sound : SoundWithTotal lows highs total) {i : ℕ} (inside : i < length lows) where
-  low_times : length lows * get_or lows i 0 ≤ 256 * greatest_share
-  low_times =
-      let share : get_or lows i 0 ≤ greatest_share = omega (arith, ranges_at sound.ranges i inside) in
-      mul-le-mul sound.few share
+-- the first member's bounds, and the members after it
+first : {l h : ℕ} {ls hs : List ℕ} → Ranges (l ∷ ls) (h ∷ hs) → (l ≤ greatest_share) × (h ≤ greatest_share) × Ranges ls hs
+first (Ranges.also p q r) = (omega arith, q, r)
 
-  high_times : length lows * get_or highs i 0 ≤ 256 * greatest_share
-  high_times =
-      let share : get_or highs i 0 ≤ greatest_share = omega (arith, ranges_at sound.ranges i inside) in
-      mul-le-mul sound.few share
+-- a part is added
+added : (f : ℕ → ℕ) (xs : List ℕ) (x sum : ℕ) {all : ℕ} → sum + sum_of f (x ∷ xs) ≡ all → sum + f x + sum_of f xs ≡ all
+unfolding sum_of
+added f xs x sum e = omega (arith, e)
 
-  above_fits : {above : ℕ} → Added (above_mean (length lows) total) lows i above
-      → above + above_mean (length lows) total (get_or lows i 0) ≤ 256 * greatest_part
-  above_fits added =
-      let f : ℕ → ℕ = above_mean (length lows) total in
-      let all : sum_of f lows ≤ length lows * greatest_part = sum_of_bound f greatest_part lows (λ k here.
-      above_small (length lows) total sound.few _ (omega (arith, ranges_at sound.ranges k here))) in
-      omega (arith, (added_one f lows inside added).adds, sound.few)
+-- none is left
+ended : (f : ℕ → ℕ) (xs : List ℕ) {sum all : ℕ} → sum + sum_of f xs ≡ all → length xs ≡ 0 → sum ≡ all
+unfolding sum_of
+ended f xs e none = omega (arith, rw (nil_from_length xs none) at e)
 
-  below_fits : {below : ℕ} → Added (below_mean (length lows) total) highs i below
-      → below + below_mean (length lows) total (get_or highs i 0) ≤ 256 * greatest_part
-  below_fits added =
-      let f : ℕ → ℕ = below_mean (length lows) total in
-      let also_inside : i < length highs = omega (arith, sound.paired) in
-      let all : sum_of f highs ≤ length highs * greatest_part = sum_of_bound f greatest_part highs (λ k here.
-      below_small (length lows) total (omega (arith, sound.small)) _) in
-      omega (arith, (added_one f highs also_inside added).adds, sound.few, sound.paired)
+module _ (t : In-Some) where
+  bounds : (t.in-Some.low.now ≤ greatest_share) × (t.in-Some.high.now ≤ greatest_share) × Ranges t.next.new.self.a.rest.now t.next.new.self.b.rest.now
+  bounds = first (rw (t.in-Some.ensures.steps.0, t.in-Some.ensures.steps.1) at t.loop-low.invariant.ranges)
+
+  above : t.loop-low.above + above_mean (length t.args.lows.now) t.args.total t.in-Some.low.now + sum_of (above_mean (length t.args.lows.now) t.args.total) t.next.new.self.a.rest.now
+      ≡ sum_of (above_mean (length t.args.lows.now) t.args.total) t.args.lows.now
+  above = added _ _ _ _ (rw t.in-Some.ensures.steps.0 at t.loop-low.invariant.lows_passed)
+
+  below : t.loop-low.below + below_mean (length t.args.lows.now) t.args.total t.in-Some.high.now + sum_of (below_mean (length t.args.lows.now) t.args.total) t.next.new.self.b.rest.now
+      ≡ sum_of (below_mean (length t.args.lows.now) t.args.total) t.args.highs.now
+  below = added _ _ _ _ (rw t.in-Some.ensures.steps.1 at t.loop-low.invariant.highs_passed)
 
 pub overflow_mul-count : goal.overflow_mul-count
-overflow_mul-count c = omega (arith, low_times c.requires c.loop-i-test.true)
+overflow_mul-count c = omega (arith, mul-le-mul c.requires.few (bounds (goal.at.overflow_mul-count c).In-Some).0)
 
 pub overflow_add-above : goal.overflow_add-above
-overflow_add-above c = rw c.past-above.ensures (omega (arith, above_fits c.requires c.loop-i-test.true c.loop-i.invariant.lows_passed))
+overflow_add-above c = omega (arith, c.saturating_sub-above.ensures, above (goal.at.overflow_add-above c).In-Some, (bounds_small _ _ c.requires c.requires.few).0)
 
-pub overflow_mul-count-in-loop-i : goal.overflow_mul-count-in-loop-i
-overflow_mul-count-in-loop-i c = omega (arith, high_times c.requires c.loop-i-test.true)
+pub overflow_mul-count-in-loop-low : goal.overflow_mul-count-in-loop-low
+overflow_mul-count-in-loop-low c = omega (arith, mul-le-mul c.requires.few (bounds (goal.at.overflow_mul-count-in-loop-low c).In-Some).1)
 
 pub overflow_add-below : goal.overflow_add-below
-overflow_add-below c = rw c.past-below.ensures (omega (arith, below_fits c.requires c.loop-i-test.true c.loop-i.invariant.highs_passed))
+overflow_add-below c = omega (arith, c.saturating_sub-below.ensures, below (goal.at.overflow_add-below c).In-Some, (bounds_small _ _ c.requires c.requires.few).1)
 
-pub loop-i-preserved : goal.loop-i-preserved
-loop-i-preserved c = record {
-  inside = omega arith;
-  lows_passed = rw c.past-above.ensures (added_one _ _ c.loop-i-test.true c.loop-i.invariant.lows_passed);
-  highs_passed = rw c.past-below.ensures (added_one _ _ (omega (arith, c.loop-i-test.true, c.requires.paired)) c.loop-i.invariant.highs_passed);
-}
+pub loop-low-preserved : goal.loop-low-preserved
+loop-low-preserved c =
+    let at = (goal.at.loop-low-preserved c).In-Some in
+    record {
+      ranges = (bounds at).2;
+      lows_passed = rw c.saturating_sub-above.ensures (above at);
+      highs_passed = rw c.saturating_sub-below.ensures (below at);
+    }
 
 pub returns : goal.returns
-returns c = record {
-  lows_above = added_all _ _ c.loop-i-test.false c.loop-i.invariant.lows_passed;
-  highs_below = added_all _ _ (omega (arith, c.loop-i-test.false, c.requires.paired)) c.loop-i.invariant.highs_passed;
-}
+returns c =
+    let inv = c.loop-low.invariant in
+    let none : length c.loop-low.low-iterator.a.rest.now ≡ 0 = grind (arith, c.in-None.ensures.steps, ranges_length inv.ranges) in
+    record {
+      lows_above = ended _ _ inv.lows_passed none;
+      highs_below = ended _ _ inv.highs_passed (omega (arith, none, ranges_length inv.ranges));
+    }

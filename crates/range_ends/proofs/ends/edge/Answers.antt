@@ -1,12 +1,8 @@
 -- The search keeps a value that no plan gives outside and one that some plan gives inside, and comes nearer. Assumes nothing.
-use native.Mathlib.Omega.{arith}
-use mathlib.Core.Bool.{Bool}
-use mathlib.Core.Path.{refl, sym, ◌∙◌}
-use Prim.Native.Nat.{ℕ, ◌≤◌, ◌<◌}
+use Rattle.std.proofs.Common.{arith, Bool, sym, ◌∙◌, ℕ, ◌≤◌, ◌<◌}
 use Rattle.model.specs.Shares.{greatest_share}
 use Rattle.model.specs.Figures.{apart}
 use Rattle.model.specs.Plans.{taken}
-use Rattle.model.proofs.Laws.Tests.{clash}
 use Rattle.range_ends.specs.Laws.Edges.{straddle_start, straddle_in, straddle_out, amid_nearer}
 use Rattle.range_ends.specs.Laws.Reaching.{told}
 use Rattle.range_ends.specs.Laws.Searches.{search_triable, search_in, search_out}
@@ -16,7 +12,7 @@ use Rattle.range_ends.proofs.ends.edge.Goals.{After-next_value-value}
 pub loop-question-init : goal.loop-question-init
 loop-question-init c =
     let p = c.requires.search in
-    record { straddle = straddle_start _ _ _ p.fails p.way.passes; search = p; outer_row = c.requires.row_of; inner_row = λ tried. absurd (clash tried refl) }
+    record { straddle = straddle_start _ _ _ p.fails p.way.passes; search = p; outer_row = c.requires.row_of; inner_row = tt }
 
 -- the value tried
 module _ (c : After-next_value-value) where
@@ -39,8 +35,8 @@ module _ (c : After-next_value-value) where
       let way = c.loop-question.invariant.search.way in
       amid_nearer (omega arith) way.small way.share_small c.next_value-value.ensures
 
-pub try_between-tried-requires : goal.try_between-tried-requires
-try_between-tried-requires c = search_triable c.loop-question.invariant.search c.next_value-value.ensures (nearer c).2 c.requires.termed
+pub try_share-tried-requires : goal.try_share-tried-requires
+try_share-tried-requires c = search_triable c.loop-question.invariant.search c.next_value-value.ensures (nearer c).2 c.requires.termed
 
 pub loop-question-smaller-then-tried : goal.loop-question-smaller-then-tried
 loop-question-smaller-then-tried c = (nearer (goal.at.loop-question-smaller-then-tried c).After-next_value-value).0
@@ -49,13 +45,13 @@ pub loop-question-preserved-then-tried : goal.loop-question-preserved-then-tried
 loop-question-preserved-then-tried c =
     let m = (goal.at.loop-question-preserved-then-tried c).After-next_value-value in
     let inv = c.loop-question.invariant in
-    let tried = c.try_between-tried.ensures in
+    let tried = c.try_share-tried.ensures in
     let passes = sym (told inv.search.way _ (nearer m).2 tried.decides) ∙ c.if-tried.true in
     record {
       straddle = straddle_in (test m) _ _ _ _ _ inv.straddle c.next_value-value.ensures passes;
       search = search_in inv.search c.next_value-value.ensures (nearer m).2 passes;
       outer_row = inv.outer_row;
-      inner_row = λ _. rw c.requires.termed.group.ended at tried.last_within;
+      inner_row = rw c.requires.termed.group.ended at tried.last_within;
     }
 
 pub loop-question-smaller : goal.loop-question-smaller
@@ -65,7 +61,7 @@ pub loop-question-preserved : goal.loop-question-preserved
 loop-question-preserved c =
     let m = (goal.at.loop-question-preserved c).After-next_value-value in
     let inv = c.loop-question.invariant in
-    let tried = c.try_between-tried.ensures in
+    let tried = c.try_share-tried.ensures in
     let fails = sym (told inv.search.way _ (nearer m).2 tried.decides) ∙ c.if-tried.false in
     record {
       straddle = straddle_out (test m) _ _ _ _ _ inv.straddle c.next_value-value.ensures fails;

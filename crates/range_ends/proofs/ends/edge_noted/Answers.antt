@@ -1,5 +1,6 @@
 -- The edge found, with the row of its inner value, serves others too. Assumes nothing.
-use native.Mathlib.Omega.{arith}
+use Rattle.std.proofs.Common.{arith}
+use Rattle.std.proofs.lemmas.Option.{IfSome_then}
 use Rattle.probe.specs.Laws.Terms.{row_asked, row_known, row_told}
 use Rattle.probe.specs.Inner.Terms.{Termed}
 use Rattle.range_ends.specs.declared.known.Bracket.{Bracket}
@@ -25,7 +26,7 @@ inner_row-near-requires c =
     let m = (goal.at.inner_row-near-requires c).After-edge-found in
     let way = (over m).search.way in
     let (rows, least) = row_asked (termed m) (probes way _ way.share_small) (share_reach way).least in
-    record { probeable = rows; value_bound = least; last_within = λ tried. row_known (termed m) ((over m).inner_row tried) }
+    record { probeable = rows; value_bound = least; last_within = IfSome_then _ (over m).inner_row (λ _ known. row_known (termed m) known) }
 
 pub noted-shared-requires : goal.noted-shared-requires
 noted-shared-requires c =

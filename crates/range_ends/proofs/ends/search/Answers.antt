@@ -1,6 +1,5 @@
 -- The end moved into reach is tried first, and then the way to it is searched. Assumes nothing.
-use native.Mathlib.Omega.{arith}
-use mathlib.Core.Path.{sym, ◌∙◌}
+use Rattle.std.proofs.Common.{arith, sym, ◌∙◌}
 use Rattle.range_ends.specs.Laws.Edges.{nearest_reach, nearest_edge}
 use Rattle.range_ends.specs.Laws.Known.{trial_known}
 use Rattle.probe.specs.Laws.Terms.{reach_asked, reach_told}
@@ -18,8 +17,8 @@ into_reach-value-requires c =
 there : (c : After-into_reach-value) → MovedIntoReach c.requires.approach c.into_reach-value.result
 there c = moved c.requires.approach (reach_told c.requires.termed c.into_reach-value.ensures)
 
-pub try_end-tried-requires : goal.try_end-tried-requires
-try_end-tried-requires c = triable c.requires.approach _ (there c).small c.requires.termed (there c).in_reach
+pub try_share-tried-requires : goal.try_share-tried-requires
+try_share-tried-requires c = triable c.requires.approach _ (there c).small c.requires.termed (there c).in_reach
 
 pub noted-shared-requires : goal.noted-shared-requires
 noted-shared-requires c =
@@ -31,10 +30,10 @@ returns-then-tried c =
     let way = c.requires.approach in
     let at = there (goal.at.returns-then-tried c).After-into_reach-value in
     let ended = c.requires.termed.group.ended in
-    let passes = sym (told way _ at.small c.try_end-tried.ensures.decides) ∙ c.if-tried.true in
+    let passes = sym (told way _ at.small c.try_share-tried.ensures.decides) ∙ c.if-tried.true in
     record {
       reaches = nearest_reach at.nearest passes;
-      known = trial_known way.tabled way.here c.requires.shared_holds at.small passes (rw ended at c.try_end-tried.ensures.last_within) (rw ended at c.noted-shared.ensures);
+      known = trial_known way.tabled way.here c.requires.shared_holds at.small passes (rw ended at c.try_share-tried.ensures.last_within) (rw ended at c.noted-shared.ensures);
     }
 
 -- the value in reach is not taken: the way from the share to it is searched
@@ -45,10 +44,10 @@ edge_noted-requires c =
     record {
       search = record {
         way = record { tabled = way.tabled; here = way.here; small = at.small; share_small = way.share_small; passes = way.passes };
-        fails = sym (told way _ at.small c.try_end-tried.ensures.decides) ∙ c.if-tried.false;
+        fails = sym (told way _ at.small c.try_share-tried.ensures.decides) ∙ c.if-tried.false;
         reach = at.in_reach;
       };
-      row_of = rw c.requires.termed.group.ended at c.try_end-tried.ensures.last_within;
+      row_of = rw c.requires.termed.group.ended at c.try_share-tried.ensures.last_within;
       termed = c.requires.termed;
       shared_holds = c.requires.shared_holds;
     }
@@ -58,6 +57,6 @@ returns c =
     let way = c.requires.approach in
     let at = there (goal.at.returns c).After-into_reach-value in
     record {
-      reaches = nearest_edge at.nearest (sym (told way _ at.small c.try_end-tried.ensures.decides) ∙ c.if-tried.false) way.passes c.edge_noted.ensures.edge;
+      reaches = nearest_edge at.nearest (sym (told way _ at.small c.try_share-tried.ensures.decides) ∙ c.if-tried.false) way.passes c.edge_noted.ensures.edge;
       known = c.edge_noted.ensures.shared_holds_2;
     }

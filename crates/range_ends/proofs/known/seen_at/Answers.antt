@@ -1,12 +1,14 @@
 -- The tests in turn, each with what it tells. Assumes nothing.
 use Rattle.range_ends.specs.Inner.Known.{SeenTo}
 use Rattle.range_ends.proofs.known.seen_at.Goals as goal
+use Rattle.range_ends.proofs.known.seen_at.Goals.{then-way-via-then-way, then-way-via-else-way+then-end_known}
 
-pub returns-then-end-way : goal.returns-then-end-way
-returns-then-end-way c h = SeenTo.itself c.if-end-way.true
-
-pub returns-then-end_known : goal.returns-then-end_known
-returns-then-end_known c h = SeenTo.within (c.end_known.ensures c.if-end_known.true)
+pub returns-then-way : goal.returns-then-way
+returns-then-way c =
+    elim c.then-way.branch [
+      | then-way-via-then-way w ↦ SeenTo.itself w.if-way.true
+      | then-way-via-else-way+then-end_known w ↦ SeenTo.within (w.end_known.ensures w.if-end_known.true)
+    ]
 
 pub returns-then-edge_known : goal.returns-then-edge_known
-returns-then-edge_known c h = SeenTo.before c.if-end-way.false (c.edge_known.ensures c.if-edge_known.true)
+returns-then-edge_known c = SeenTo.before c.if-way.false (c.edge_known.ensures c.if-edge_known.true)
