@@ -1,4 +1,5 @@
 -- The laws, a file for each topic.
+pub mod Kinds
 pub mod Parsed
 pub mod Printed
 pub mod Spots

@@ -1,7 +1,7 @@
 // Reading bytes: the kind of a byte, and a spot in a text.
 #![tactic(auto)]
 
-ghost use Rattle.std.specs.Prelude.{◌≡◌, ◌+◌, ◌*◌, ◌≤◌, ◌<◌, length, drop};
+ghost use Rattle.std.specs.Prelude.{◌≡◌, ◌+◌, ◌*◌, ◌≤◌, ◌<◌, length, drop, Some};
 ghost use Rattle.text.specs.Kinds.{kind_of};
 ghost use Rattle.text.specs.Parsed.{word, mapped};
 ghost use Rattle.text.specs.Numbers.{number, number_after};
@@ -10,8 +10,8 @@ ghost use Rattle.text.specs.Inner.Spots.{stepped, counted, first_digit, digits_h
 
 pub mod ailments;
 
-// The kind of a byte, by its number.
-#[derive(Clone, Copy)]
+// The kinds of bytes.
+#[derive(Clone, Copy, PartialEq, Eq)]
 pub enum Kind {
     Opening,
     Closing,
@@ -21,6 +21,7 @@ pub enum Kind {
     Foreign,
 }
 
+// The kind of a byte, by its number.
 pub fn kind_of(byte: u8) -> Kind
     ensures { result ≡ kind_of byte }
 {
@@ -40,42 +41,25 @@ pub struct Spot {
     pub at: usize,
 }
 
-// What reading a word answers: the spot after it.
-#[derive(Clone, Copy)]
-pub enum Step {
-    To(Spot),
-    Stop,
-}
-
-// What reading a number answers: its value, and the spot after it.
-#[derive(Clone, Copy)]
-pub enum Number {
-    Value(u64, Spot),
-    Missing,
-}
-
-// What looking for a digit answers: its value.
-#[derive(Clone, Copy)]
-pub enum Found {
-    Is(u64),
-    Nothing,
-}
-
 // The greatest value that is told apart: it is above every limit of a job.
 pub const MOST: u64 = 1_000_000_000_000_000_000;
 
-fn digit_at(text: &[u8], at: usize) -> Found
+// The text from a place on: nothing past its end.
+fn rest_from(text: &[u8], at: usize) -> &[u8]
+    ensures { result.now ≡ drop at text.now }
+{
+    text.get(at..).unwrap_or_default()
+}
+
+// The value of the digit at a place, where one is there.
+fn digit_at(text: &[u8], at: usize) -> Option<u64>
     ensures { result ≡ first_digit (drop at text.now) }
 {
-    if text.len() <= at {
-        return Found::Nothing;
+    let byte = *text.get(at)?;
+    if kind_of(byte) != Kind::Digit {
+        return None;
     }
-    let byte = text[at];
-    let kind = kind_of(byte);
-    let Kind::Digit = kind else {
-        return Found::Nothing;
-    };
-    Found::Is(byte as u64 - 48)
+    Some(byte as u64 - 48)
 }
 
 // The value with one digit more.
@@ -83,71 +67,52 @@ fn grown(value: u64, digit: u64) -> u64
     requires { (value ≤ most) × (digit < 10) }
     ensures { result ≡ held (value * 10 + digit) }
 {
-    let next = value * 10 + digit;
-    if next <= MOST {
-        return next;
-    }
-    MOST
+    (value * 10 + digit).min(MOST)
 }
 
 // Reads the digits that go on a number whose first ones have the value first.
-fn digits_from(text: &[u8], from: usize, first: u64) -> Number
+fn digits_from(text: &[u8], from: usize, first: u64) -> (u64, Spot)
     requires { first ≤ most }
-    ensures { counted text.now result ≡ digits_held first (drop from text.now) }
+    ensures { counted text.now (Some result) ≡ digits_held first (drop from text.now) }
 {
     let mut at = from;
     let mut value = first;
-    while at < text.len() {
-        let Found::Is(digit) = digit_at(text, at) else {
-            return Number::Value(value, Spot { at });
-        };
+    while let Some(digit) = digit_at(text, at) {
         value = grown(value, digit);
         at += 1;
     }
-    Number::Value(value, Spot { at })
+    (value, Spot { at })
 }
 
 impl Spot {
-    // Reads a number; a value above MOST reads as MOST.
-    pub fn number(self, text: &[u8]) -> Number
+    // Reads a number, and gives the spot after it; a value above MOST reads as MOST.
+    pub fn number(self, text: &[u8]) -> Option<(u64, Spot)>
         ensures { counted text.now result ≡ mapped held (number (drop self.at text.now)) }
     {
-        let at = self.at;
-        let Found::Is(first) = digit_at(text, at) else {
-            return Number::Missing;
-        };
+        let first = digit_at(text, self.at)?;
+        let next = self.at + 1;
         if first == 0 {
-            return Number::Value(0, Spot { at: at + 1 });
+            return Some((0, Spot { at: next }));
         }
-        digits_from(text, at + 1, first)
+        Some(digits_from(text, next, first))
     }
 
-    // Reads a word, given by its bytes.
-    pub fn word(self, text: &[u8], bytes: &[u8]) -> Step
+    // Reads a word, given by its bytes, and gives the spot after it.
+    pub fn word(self, text: &[u8], bytes: &[u8]) -> Option<Spot>
         ensures { stepped text.now result ≡ word bytes.now (drop self.at text.now) }
     {
-        let mut at = self.at;
-        let mut i = 0;
-        while i < bytes.len() {
-            if text.len() <= at {
-                return Step::Stop;
-            }
-            if text[at] != bytes[i] {
-                return Step::Stop;
-            }
-            at += 1;
-            i += 1;
+        if !rest_from(text, self.at).starts_with(bytes) {
+            return None;
         }
-        Step::To(Spot { at })
+        Some(Spot {
+            at: self.at + bytes.len(),
+        })
     }
 
     // Reads a word, and a number after it.
-    pub fn number_after(self, text: &[u8], bytes: &[u8]) -> Number
+    pub fn number_after(self, text: &[u8], bytes: &[u8]) -> Option<(u64, Spot)>
         ensures { counted text.now result ≡ mapped held (number_after bytes.now (drop self.at text.now)) }
     {
-        let Step::To(spot) = self.word(text, bytes) else {
-            return Number::Missing;
-        };
-        spot.number(text)
+        self.word(text, bytes)?.number(text)
     }
 }

@@ -1,25 +1,12 @@
 -- A pairs limit, or else nothing, and the spot stays. Assumes nothing.
-use mathlib.Core.Path.{refl}
 use Rattle.text.specs.Parsed.{mapped, or_else}
-use Rattle.text.specs.Laws.Spots.{told}
-use Rattle.form.specs.Form.{unsaid, said, pairs_as}
-use Rattle.form.specs.Inner.LinesRead.{limit_seen}
+use Rattle.form.specs.Form.{pairs_as}
 use Rattle.form.proofs.pairs_after.Goals as goal
 
-pub returns-in-Is : goal.returns-in-Is
+pub returns-in_default : goal.returns-in_default
 unfolding pairs_as mapped or_else
-returns-in-Is c = record {
-  words = said c.in-Is.limit;
-  read = rw (told (limit_seen _) c.limit_after-pairs.ensures c.in-Is.is);
-  limit = refl;
-  there = refl;
-}
+returns-in_default c = rw (← c.in_default.ensures)
 
 pub returns : goal.returns
 unfolding pairs_as mapped or_else
-returns c = record {
-  words = unsaid;
-  read = rw (told (limit_seen _) c.limit_after-pairs.ensures c.in_default.is);
-  limit = refl;
-  there = refl;
-}
+returns c = rw (← c.in-Some.ensures)

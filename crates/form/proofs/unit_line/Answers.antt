@@ -1,14 +1,12 @@
 -- The word is tried first, then the form with low and high. Assumes nothing.
 use Rattle.text.specs.Parsed.{mapped, or_else}
-use Rattle.text.specs.Inner.Spots.{stepped}
-use Rattle.text.specs.Laws.Spots.{told}
 use Rattle.form.specs.Form.{unit_as}
 use Rattle.form.proofs.unit_line.Goals as goal
 
-pub returns-in-To : goal.returns-in-To
+pub returns-in_default : goal.returns-in_default
 unfolding unit_as mapped or_else
-returns-in-To c = rw (told (stepped _) c.word-shut.ensures c.in-To.is)
+returns-in_default c = rw (← c.in_default.ensures) c.range_line.ensures
 
 pub returns : goal.returns
 unfolding unit_as mapped or_else
-returns c = rw (told (stepped _) c.word-shut.ensures c.in_default.is) c.range_line.ensures
+returns c = rw (← c.in-Some.ensures)

@@ -1,6 +1,7 @@
 -- Laws for the walk over a line. Assumes nothing.
 use Rattle.std.specs.Prelude.{ℕ, ◌≤◌, Bool, true, false, not, ◌&&◌, ◌||◌, List, [], ◌∷◌, ◌≡◌, refl, eqb}
 use Rattle.std.proofs.Common.{sym, ap, ◌∙◌, arith, eqb-true}
+use Rattle.std.specs.List.{list_any}
 use Rattle.model.proofs.Laws.Tests.{neither}
 use Rattle.model.specs.Shares.{pick}
 use Rattle.text.specs.Kinds.{kind_of, is_opening, is_closing}
@@ -16,6 +17,12 @@ pick_few false = omega arith
 -- a byte is one bracket at most
 pub bracket_few : (b : ℕ) → (openings b ≤ 1) × (closings b ≤ 1)
 bracket_few b = (pick_few (is_opening (kind_of b)), pick_few (is_closing (kind_of b)))
+
+-- a text has a byte 10 exactly if some byte of it is 10
+pub ended_any : (s : List ℕ) → list_any (λ b. eqb b 10) s ≡ ended s
+unfolding ended
+ended_any [] = refl
+ended_any (b ∷ s) = ap (λ t. eqb b 10 || t) (ended_any s)
 
 -- a text has a byte 10 exactly if its first line has
 pub ended_front : (s : List ℕ) → ended (front_line s) ≡ ended s
