@@ -8,29 +8,25 @@ ghost use Rattle.levelling.specs.Levelling.{levelling, plan_after};
 ghost use Rattle.group.specs.Narrowing.{narrowing, list_after};
 
 use crate::running::narrow_running;
-use levelling::{Levelling, level_core};
-use list_checks::{Check, amounts_within, check_lists};
+use levelling::{Levelled, level_core};
+use list_checks::{amounts_within, check_lists};
 use model::{GREATEST_TOTAL, Limits, Question, Refusal, Turn};
 
 mod running;
 
 // Levels a group on lists.
-pub fn level(lows: &[u64], highs: &[u64], marks: &[u64], total: u64, plan: &mut [u64]) -> Levelling
+pub fn level(
+    lows: &[u64],
+    highs: &[u64],
+    marks: &[u64],
+    total: u64,
+    plan: &mut [u64],
+) -> Result<Levelled, Refusal>
     ensures value { result ≡ levelling lows.now highs.now marks.now total (length plan.old) }
     ensures plan_after { plan.new ≡ plan_after result (levelled lows.now highs.now total) plan.old }
 {
-    let check = check_lists(lows, highs, marks, plan.len(), total <= GREATEST_TOTAL);
-    match check {
-        Check::Failed(refusal) => Levelling::Refused(refusal),
-        Check::Passed => level_core(lows, highs, marks, total, plan),
-    }
-}
-
-// What narrowing a group answers; the ranges lie in its lists.
-#[derive(Clone, Copy)]
-pub enum Narrowing {
-    Narrowed,
-    Refused(Refusal),
+    check_lists(lows, highs, marks, plan.len(), total <= GREATEST_TOTAL)?;
+    level_core(lows, highs, marks, total, plan)
 }
 
 // Narrows a group on lists, in place.
@@ -40,23 +36,20 @@ pub fn narrow(
     marks: &[u64],
     total: u64,
     limits: Limits,
-) -> Narrowing
+) -> Result<(), Refusal>
     ensures value { result ≡ narrowing lows.old highs.old marks.now total limits }
     ensures lows_after { lows.new ≡ list_after result (marked_lows marks.now lows.old highs.old total limits) lows.old }
     ensures highs_after { highs.new ≡ list_after result (marked_highs marks.now lows.old highs.old total limits) highs.old }
 {
-    let check = check_lists(
+    check_lists(
         lows,
         highs,
         marks,
         lows.len(),
         amounts_within(total, limits),
-    );
-    if let Check::Failed(refusal) = check {
-        return Narrowing::Refused(refusal);
-    }
+    )?;
     let Turn::NoPlan(number) = narrow_running(lows, highs, marks, Question { total, limits }) else {
-        return Narrowing::Narrowed;
+        return Ok(());
     };
-    Narrowing::Refused(Refusal { number, place: 0 })
+    Err(Refusal { number, place: 0 })
 }

@@ -6,7 +6,6 @@ ghost use Rattle.model.specs.Sound.{SoundRanges, HasShares};
 ghost use Rattle.levelling.specs.Inner.Searching.{LevelBetween};
 
 use model::Share;
-use model::levels::clamp;
 
 // The level, and the copies left over there.
 #[derive(Clone, Copy)]
@@ -24,10 +23,8 @@ fn total_at(lows: &[u64], highs: &[u64], v: u64, additions: &mut u64) -> u64
 {
     *additions += 1;
     let mut total: u64 = 0;
-    let mut i: usize = 0;
-    while i < lows.len() {
-        total += clamp(lows[i], highs[i], v);
-        i += 1;
+    for (low, high) in lows.iter().zip(highs) {
+        total += v.clamp(*low, *high);
     }
     total
 }

@@ -12,24 +12,17 @@ use crate::levels::find_level;
 use crate::plans::figures_of;
 use crate::shares::fill_plan;
 use model::shares::has_shares;
-use model::{Checked, Figures, Refusal, Share};
+use model::{Figures, Refusal, Share};
 
 mod levels;
 pub mod plans;
 pub mod shares;
 
-// What levelling a group answers.
-#[derive(Clone, Copy)]
-pub enum Levelling {
-    Levelled { level: Share, figures: Figures },
-    Refused(Refusal),
-}
-
 // The level of a group whose total is shared out, and the figures of its shares.
 #[derive(Clone, Copy)]
-struct SharedOut {
-    level: u64,
-    figures: Figures,
+pub struct Levelled {
+    pub level: Share,
+    pub figures: Figures,
 }
 
 // Shares the total of a group out: the levelled shares go to the plan, over its first numbers, once the level is known.
@@ -41,22 +34,23 @@ fn share_out(
     total: u64,
     plan: &mut [u64],
     additions: &mut u64,
-) -> SharedOut
+) -> Levelled
     requires has_shares { HasShares lows.now highs.now total }
     requires marked { Marked marks.now lows.now highs.now }
     requires lows_in_bounds { length lows.now ≤ length plan.old }
     requires most_additions_bound { additions.old + most_additions < 2 ^ 64 }
-    ensures level_value { result.level ≡ level lows.now highs.now total }
+    ensures level_value { result.level.copies ≡ level lows.now highs.now total }
     ensures figures_value { result.figures ≡ marked_figures marks.now total (levelled lows.now highs.now total) }
     ensures plan_after { plan.new ≡ levelled lows.now highs.now total ++ drop (length lows.now) plan.old }
     ensures additions_bound { additions.new ≤ additions.old + most_additions }
 {
     let found = find_level(lows, highs, total, additions);
-    let level = found.level;
-    fill_plan(lows, highs, level, found.left, plan);
+    fill_plan(lows, highs, found.level, found.left, plan);
     let count = lows.len();
     let figures = figures_of(&plan[..count], marks, total);
-    SharedOut { level, figures }
+    // Every level is a share.
+    let level = Share::new(found.level).unwrap();
+    Levelled { level, figures }
 }
 
 // Levels sound lists: the levelled shares go to the plan, over its first numbers.
@@ -66,7 +60,7 @@ pub fn level_core(
     marks: &[u64],
     total: u64,
     plan: &mut [u64],
-) -> Levelling
+) -> Result<Levelled, Refusal>
     requires sound_ranges { SoundRanges lows.now highs.now }
     requires marked { Marked marks.now lows.now highs.now }
     requires lows_in_bounds { length lows.now ≤ length plan.old }
@@ -74,21 +68,11 @@ pub fn level_core(
     ensures plan_after { plan.new ≡ plan_after result (levelled lows.now highs.now total) plan.old }
 {
     if !has_shares(lows, highs, total) {
-        return Levelling::Refused(Refusal {
+        return Err(Refusal {
             number: 11,
             place: 0,
         });
     }
     let mut additions: u64 = 0;
-    let shared = share_out(lows, highs, marks, total, plan, &mut additions);
-    let v = shared.level;
-    let figures = shared.figures;
-    // Every level is a share, so nothing is refused here.
-    let Checked::Valid(level) = Share::new(v) else {
-        return Levelling::Refused(Refusal {
-            number: 11,
-            place: 0,
-        });
-    };
-    Levelling::Levelled { level, figures }
+    Ok(share_out(lows, highs, marks, total, plan, &mut additions))
 }

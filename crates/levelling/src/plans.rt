@@ -42,12 +42,9 @@ pub fn figures_of(shares: &[u64], marks: &[u64], total: u64) -> Figures
     let count = running_count(marks) as u64;
     let mut deviation: u64 = 0;
     let mut squares: u64 = 0;
-    let mut i: usize = 0;
-    while i < shares.len() {
-        let share = shares[i];
-        deviation += if_running(marks[i], apart(count * share, total));
-        squares += share * share;
-        i += 1;
+    for (i, share) in shares.iter().enumerate() {
+        deviation += if_running(marks[i], apart(count * *share, total));
+        squares += *share * *share;
     }
     Figures {
         deviation: Deviation(deviation),

@@ -5,7 +5,6 @@ ghost use Rattle.levelling.specs.Additions.{KnownLevel};
 ghost use Rattle.headroom.specs.Inner.Takers.{HasTakers};
 
 use headroom::{bar_for, one_above, one_at};
-use model::levels::clamp;
 
 // Writes the shares at the level, which has to be known, with the copies left over handed out by headroom, over the first
 // numbers of a plan.
@@ -20,14 +19,11 @@ pub fn fill_plan(lows: &[u64], highs: &[u64], v: u64, left: u64, plan: &mut [u64
     let found = bar_for(lows, highs, v, left, &mut plan[..count]);
     let bar = found.high;
     let mut rest = found.rest;
-    let mut i: usize = 0;
-    while i < lows.len() {
-        let low = lows[i];
+    for (i, low) in lows.iter().enumerate() {
         let high = highs[i];
-        let at = one_at(low, high, v, bar, rest);
-        let more = one_above(low, high, v, bar) + at;
-        plan[i] = clamp(low, high, v) + more;
+        let at = one_at(*low, high, v, bar, rest);
+        let more = one_above(*low, high, v, bar) + at;
+        plan[i] = v.clamp(*low, high) + more;
         rest -= at;
-        i += 1;
     }
 }

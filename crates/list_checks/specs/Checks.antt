@@ -1,11 +1,10 @@
 -- The checks on the lists of one group, in 01's order: 1, 4 for the units, 4 for total and limits, 7. Assumes nothing.
-use Rattle.std.specs.Prelude.{ℕ, suc, Bool, true, false, not, ◌&&◌, List, [], ◌∷◌, leb, ltb, eqb, length}
+use Rattle.std.specs.Prelude.{ℕ, suc, Bool, true, false, not, ◌&&◌, List, [], ◌∷◌, leb, ltb, eqb, length, Result, Ok, Err}
 use Rattle.model.specs.Shares.{pick, greatest_share, greatest_total, most_units}
 use Rattle.model.specs.Figures.{greatest_deviation, greatest_spread, greatest_pairs, limit_within}
 use Rattle.model.specs.Running.{runs}
 use Rattle.model.specs.declared.Limits.{Limits}
-use Rattle.list_checks.specs.declared.Check.{Check}
-use Rattle.list_checks.specs.declared.Check.TheVariants.{Passed, Failed}
+use Rattle.model.specs.declared.Refusal.{Refusal}
 
 -- the place of the first unit whose low, high and mark fail a test, where the first unit of the lists has the given place; 0 where none fails
 unfoldable pub first_failing : (ℕ → ℕ → ℕ → Bool) → ℕ → List ℕ → List ℕ → List ℕ → ℕ
@@ -47,15 +46,15 @@ amounts_within total limits =
     && (limit_within limits.spread greatest_spread && limit_within limits.pairs greatest_pairs))
 
 -- a refusal if the test holds, and else what comes after it
-abbrev pub refuse_if : Bool → ℕ → ℕ → Check → Check
-refuse_if true number place next = Failed (record { number = number; place = place })
+abbrev pub refuse_if : Bool → ℕ → ℕ → Result (Unit {0}) Refusal → Result (Unit {0}) Refusal
+refuse_if true number place next = Err (record { number = number; place = place })
 refuse_if false number place next = next
 
 -- 01's order for lists of one group, up to 7; whether total and limits are in their ranges is the caller's to say
-unfoldable pub check_lists : List ℕ → List ℕ → List ℕ → ℕ → Bool → Check
+unfoldable pub check_lists : List ℕ → List ℕ → List ℕ → ℕ → Bool → Result (Unit {0}) Refusal
 check_lists lows highs marks room amounts =
     refuse_if (not (sized (length lows) (length highs) (length marks) room)) 1 0
     (refuse_if (ltb 0 (first_beyond lows highs marks)) 4 (first_beyond lows highs marks)
     (refuse_if (not amounts) 4 0
     (refuse_if (ltb 0 (first_crossed lows highs marks)) 7 (first_crossed lows highs marks)
-    Passed)))
+    (Ok tt))))

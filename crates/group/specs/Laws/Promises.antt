@@ -1,5 +1,5 @@
 -- Narrowing one group keeps what it promises of the lists after the call. Assumes nothing.
-use Rattle.std.specs.Prelude.{ℕ, List, ◌≡◌, refl}
+use Rattle.std.specs.Prelude.{ℕ, List, ◌≡◌, refl, Ok, Err}
 use Rattle.model.specs.Running.{marked_lows, marked_highs}
 use Rattle.model.proofs.Laws.Plans.{plan_found}
 use Rattle.model.proofs.Laws.Running.{running_ranges}
@@ -8,7 +8,6 @@ use Rattle.model.proofs.Laws.ShutNarrowing.{marked_ranges, marked_inside, marked
 use Rattle.model.specs.declared.Limits.{Limits}
 use Rattle.model.specs.declared.Refusal.{Refusal}
 use Rattle.group.specs.Narrowing.{narrowing}
-use Rattle.group.specs.declared.Narrowing.TheVariants as narrow
 use Rattle.list_checks.proofs.Laws.Findings.{passed_sound, passed_marked}
 use Rattle.group.specs.Answers.{NarrowFinding}
 use Rattle.group.specs.Laws.Answers.{narrow_exactly}
@@ -16,7 +15,7 @@ use Rattle.group.specs.Promises.{NarrowPromise, lows_left, highs_left}
 
 module _ (lows highs marks : List ℕ) (total : ℕ) (limits : Limits) where
   -- where a plan exists, the narrowed ranges keep what plans take
-  narrowed_kept : NarrowFinding lows highs marks total limits narrow.Narrowed
+  narrowed_kept : NarrowFinding lows highs marks total limits (Ok tt)
       → NarrowPromise lows highs marks total limits (marked_lows marks lows highs total limits) (marked_highs marks lows highs total limits)
   narrowed_kept (NarrowFinding.answered clear (shares, plan)) =
       let ranges = (passed_sound clear).0.ranges in
@@ -29,11 +28,11 @@ module _ (lows highs marks : List ℕ) (total : ℕ) (limits : Limits) where
       }
 
   -- 01, demand 2, for narrowing
-  pub narrow_promised : narrowing lows highs marks total limits ≡ narrow.Narrowed
+  pub narrow_promised : narrowing lows highs marks total limits ≡ Ok tt
       → NarrowPromise lows highs marks total limits (lows_left lows highs marks total limits) (highs_left lows highs marks total limits)
   narrow_promised is = rw is (narrowed_kept ((narrow_exactly lows highs marks total limits _).0 is))
 
   -- refused, it leaves the lists as they were
-  pub narrow_unchanged : {refused : Refusal} → narrowing lows highs marks total limits ≡ narrow.Refused refused
+  pub narrow_unchanged : {refused : Refusal} → narrowing lows highs marks total limits ≡ Err refused
       → (lows_left lows highs marks total limits ≡ lows) × (highs_left lows highs marks total limits ≡ highs)
   narrow_unchanged is = rw is (refl, refl)

@@ -1,10 +1,10 @@
 -- The level and the copies left over are found, and the levelled shares are theirs. Assumes nothing.
-use mathlib.Core.List.{◌++◌}
-use mathlib.Core.Path.{◌≡◌}
-use lib.ListN.{length, take, drop}
+use Rattle.std.proofs.Common.{◌≡◌, ◌++◌, length, take, drop, refl, ◌∙◌}
 use Rattle.model.specs.Levels.{levelled}
+use Rattle.model.proofs.Laws.Level.{level_share}
 use Rattle.model.proofs.Laws.Levelled.{levelled_within, levelled_adds}
 use Rattle.levelling.specs.Laws.Shared.{shared_out, plan_front}
+use Rattle.model.proofs.Laws.Shares.{share_valid, share_copies}
 use Rattle.model.proofs.Laws.Sound.{levelled_is, levelled_length}
 use Rattle.levelling.specs.Laws.Additions.{level_known, has_takers}
 use Rattle.levelling.proofs.share_out.Goals as goal
@@ -41,3 +41,12 @@ returns-clause-figures_value c = rw (front (goal.at.returns-clause-figures_value
 
 pub returns-clause-plan_after : goal.returns-clause-plan_after
 returns-clause-plan_after c = filled (goal.at.returns-clause-plan_after c).After-fill_plan
+
+-- the level is a share
+pub unwrap-level-requires : goal.unwrap-level-requires
+unwrap-level-requires c =
+    let small = level_share c.args.lows.now c.args.highs.now c.args.total in
+    rw (share_valid _ _ (rw c.find_level-found.ensures.level_value small) c.new.ensures) refl
+
+pub returns-clause-level_value : goal.returns-clause-level_value
+returns-clause-level_value c = share_copies _ c.new.ensures c.unwrap-level.ensures ∙ c.find_level-found.ensures.level_value

@@ -1,5 +1,5 @@
 -- Levelling one group keeps what it promises of the plan list after the call. Assumes nothing.
-use Rattle.std.specs.Prelude.{ℕ, List, ◌++◌, ◌≡◌, length, drop}
+use Rattle.std.specs.Prelude.{ℕ, List, ◌++◌, ◌≡◌, length, drop, Ok, Err}
 use Rattle.std.proofs.Math.Seq.{take_at}
 use Rattle.std.proofs.Common.{drop_at}
 use Rattle.model.specs.Levels.{remainder, levelled}
@@ -12,7 +12,6 @@ use Rattle.model.specs.declared.Refusal.{Refusal}
 use Rattle.model.specs.declared.Share.{Share}
 use Rattle.levelling.specs.Levelling.{levelling}
 use Rattle.model.proofs.Laws.Sound.{levelled_length}
-use Rattle.levelling.specs.declared.Levelling.TheVariants as level
 use Rattle.list_checks.proofs.Laws.Findings.{passed_sound, passed_marked}
 use Rattle.levelling.specs.Answers.{LevelFinding}
 use Rattle.levelling.specs.Laws.Answers.{level_exactly}
@@ -20,7 +19,7 @@ use Rattle.levelling.specs.Promises.{LevelPromise, plan_left}
 
 module _ (lows highs marks : List ℕ) (total : ℕ) (plan : List ℕ) where
   -- where shares exist, the levelled ones are least
-  levelled_kept : {v : Share} {figures : Figures} → LevelFinding lows highs marks total (length plan) (level.Levelled v figures)
+  levelled_kept : {v : Share} {figures : Figures} → LevelFinding lows highs marks total (length plan) (Ok (record { level = v; figures = figures }))
       → LevelPromise lows highs marks total v.copies figures plan
       (levelled lows highs total ++ drop (length (levelled lows highs total)) plan)
   unfolding remainder
@@ -53,10 +52,10 @@ module _ (lows highs marks : List ℕ) (total : ℕ) (plan : List ℕ) where
       }
 
   -- 01, demand 2, for levelling
-  pub level_promised : {v : Share} {figures : Figures} → levelling lows highs marks total (length plan) ≡ level.Levelled v figures
+  pub level_promised : {v : Share} {figures : Figures} → levelling lows highs marks total (length plan) ≡ Ok (record { level = v; figures = figures })
       → LevelPromise lows highs marks total v.copies figures plan (plan_left lows highs marks total plan)
   level_promised is = rw is (levelled_kept ((level_exactly lows highs marks total (length plan) _).0 is))
 
   -- refused, it leaves the plan list as it was
-  pub level_unchanged : {refused : Refusal} → levelling lows highs marks total (length plan) ≡ level.Refused refused → plan_left lows highs marks total plan ≡ plan
+  pub level_unchanged : {refused : Refusal} → levelling lows highs marks total (length plan) ≡ Err refused → plan_left lows highs marks total plan ≡ plan
   level_unchanged is = rw is

@@ -1,5 +1,5 @@
 -- The checks on the lists of one group give an answer exactly if 01's words for it hold. Assumes nothing.
-use Rattle.std.specs.Prelude.{ℕ, zero, suc, ◌≤◌, Bool, true, false, ◌&&◌, List, [], ◌∷◌, ◌↔◌, ◌≡◌, refl, leb, eqb, length}
+use Rattle.std.specs.Prelude.{ℕ, zero, suc, ◌≤◌, Bool, true, false, ◌&&◌, List, [], ◌∷◌, ◌↔◌, ◌≡◌, refl, leb, eqb, length, Result, Ok, Err}
 use Rattle.std.proofs.Common.{inl, inr, le_of_suc-le-suc, arith}
 use Rattle.std.proofs.Math.Nat.{suc_inj}
 use borrow.Author.Tests.{leb-true, le-leb, lt-ltb, eqb-true, eq-eqb}
@@ -10,8 +10,6 @@ use Rattle.model.specs.declared.Refusal.{Refusal}
 use Rattle.list_checks.specs.Checks.{are_shares, unit_within, unit_ordered, first_beyond, first_crossed, sized, refuse_if, check_lists}
 use Rattle.model.specs.Sound.{SoundRanges}
 use Rattle.model.proofs.Laws.Sound.{sound}
-use Rattle.list_checks.specs.declared.Check.{Check}
-use Rattle.list_checks.specs.declared.Check.TheVariants.{Passed, Failed}
 use Rattle.list_checks.specs.First.{EachUnit}
 use Rattle.list_checks.proofs.Laws.First.{none_failing, first_failing_lem}
 use Rattle.list_checks.specs.Findings.{Sized, SizedLists, Finding, CheckNumber}
@@ -85,14 +83,14 @@ each_marked (l ∷ lows) (h ∷ highs) (m ∷ marks) paired many within ordered 
 
 module _ (lows highs marks : List ℕ) (room : ℕ) (amounts : Bool) where
   -- the answer of the checks
-  abbrev answer : Check
+  abbrev answer : Result (Unit {0}) Refusal
   answer = check_lists lows highs marks room amounts
 
   abbrev size : Bool
   size = sized (length lows) (length highs) (length marks) room
 
   -- where the words for an answer hold, the checks give it
-  given : {check : Check} → Finding lows highs marks room amounts check → answer ≡ check
+  given : {check : Result (Unit {0}) Refusal} → Finding lows highs marks room amounts check → answer ≡ check
   unfolding check_lists
   given (Finding.missized none) = rw (refuted size (λ fits. none (sized_of _ _ _ _ fits)))
   given (Finding.beyond fits i unit) =
@@ -115,7 +113,7 @@ module _ (lows highs marks : List ℕ) (room : ℕ) (amounts : Bool) where
       )
 
   -- so the words that hold are those of the answer
-  held : {check : Check} → Finding lows highs marks room amounts check → Finding lows highs marks room amounts answer
+  held : {check : Result (Unit {0}) Refusal} → Finding lows highs marks room amounts check → Finding lows highs marks room amounts answer
   held finding = rw (given finding) finding
 
   -- past 1
@@ -145,25 +143,25 @@ module _ (lows highs marks : List ℕ) (room : ℕ) (amounts : Bool) where
   by_size false fails = held (Finding.missized (λ fits. clash (sized_is fits) fails))
 
   -- the checks give an answer exactly if 01's words for it hold
-  pub check_exactly : (check : Check) → (check_lists lows highs marks room amounts ≡ check) ↔ Finding lows highs marks room amounts check
+  pub check_exactly : (check : Result (Unit {0}) Refusal) → (check_lists lows highs marks room amounts ≡ check) ↔ Finding lows highs marks room amounts check
   check_exactly check = (λ is. rw is at (by_size size refl), given)
 
 -- lists that pass the checks are sound, with room for the shares
-pub passed_sound : {lows highs marks : List ℕ} {room : ℕ} {amounts : Bool} → Finding lows highs marks room amounts Passed
+pub passed_sound : {lows highs marks : List ℕ} {room : ℕ} {amounts : Bool} → Finding lows highs marks room amounts (Ok tt)
     → SoundRanges lows highs × (length lows ≤ room)
 passed_sound (Finding.passed fits within ranges marked) = (sound ranges fits.few, fits.fits)
 
 -- and each shut member's range is 0 to 0
-pub passed_marked : {lows highs marks : List ℕ} {room : ℕ} {amounts : Bool} → Finding lows highs marks room amounts Passed → Marked marks lows highs
+pub passed_marked : {lows highs marks : List ℕ} {room : ℕ} {amounts : Bool} → Finding lows highs marks room amounts (Ok tt) → Marked marks lows highs
 passed_marked (Finding.passed fits within ranges marked) = marked
 
 -- a check that passes refuses nothing, and what comes after it passes
-pub refuse_passed : (b : Bool) (number place : ℕ) (next : Check) → refuse_if b number place next ≡ Passed → (b ≡ false) × (next ≡ Passed)
+pub refuse_passed : (b : Bool) (number place : ℕ) (next : Result (Unit {0}) Refusal) → refuse_if b number place next ≡ Ok tt → (b ≡ false) × (next ≡ Ok tt)
 refuse_passed true number place next e = (cc, cc)
 refuse_passed false number place next e = (refl, e)
 
 -- the checks refuse with one of them
-pub check_number : {lows highs marks : List ℕ} {room : ℕ} {amounts : Bool} {refused : Refusal} → Finding lows highs marks room amounts (Failed refused)
+pub check_number : {lows highs marks : List ℕ} {room : ℕ} {amounts : Bool} {refused : Refusal} → Finding lows highs marks room amounts (Err refused)
     → CheckNumber refused.number
 check_number (Finding.missized none) = inl refl
 check_number (Finding.beyond fits i unit) = inr (inl refl)

@@ -1,10 +1,10 @@
 -- The first unit whose low, high and mark fail a test: what the place found says, and the search step by step. Assumes nothing.
 use Prim.Native.Nat.{ℕ, zero, suc, ◌+◌, ◌≤◌, ◌<◌}
-use Rattle.std.specs.Prelude.{Bool, ◌↔◌, ◌≡◌, length, get_or, drop}
+use Rattle.std.specs.Prelude.{Bool, ◌↔◌, ◌⊎◌, ◌≡◌, length, get_or, drop}
 use Rattle.std.proofs.Math.Bool.{true, false}
 use mathlib.Core.List.{List, [], ◌∷◌}
 use Rattle.std.proofs.Math.Path.{refl}
-use Rattle.std.proofs.Common.{◌∙◌, le_of_suc-le-suc, arith, drop_of_length-le}
+use Rattle.std.proofs.Common.{◌∙◌, inl, inr, le_of_suc-le-suc, arith, drop_of_length-le}
 use Rattle.std.proofs.Math.Decide.{dec_lt}
 use Rattle.std.proofs.Math.Nat.{suc_inj}
 use Rattle.std.proofs.Math.Numerals.{add-one}
@@ -114,3 +114,14 @@ pub first_nowhere : (test : ℕ → ℕ → ℕ → Bool) (lows highs marks : Li
     → 0 ≡ first_failing test 1 lows highs marks
 unfolding first_failing
 first_nowhere test lows highs marks i end held = rw (← held, drop_of_length-le lows end)
+
+-- once one of the lists is at its end, no unit is left to fail
+pub none_left : (test : ℕ → ℕ → ℕ → Bool) (place : ℕ) (lows highs marks : List ℕ)
+    → (length lows ≡ 0) ⊎ (length highs ≡ 0) ⊎ (length marks ≡ 0) → first_failing test place lows highs marks ≡ 0
+unfolding first_failing
+none_left test place [] highs marks ended = refl
+none_left test place (l ∷ lows) [] marks ended = refl
+none_left test place (l ∷ lows) (h ∷ highs) [] ended = refl
+none_left test place (l ∷ lows) (h ∷ highs) (m ∷ marks) (inl no_more) = absurd (omega arith)
+none_left test place (l ∷ lows) (h ∷ highs) (m ∷ marks) (inr (inl no_more)) = absurd (omega arith)
+none_left test place (l ∷ lows) (h ∷ highs) (m ∷ marks) (inr (inr no_more)) = absurd (omega arith)

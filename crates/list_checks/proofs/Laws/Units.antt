@@ -1,12 +1,12 @@
 -- Laws of units that the checks find nothing wrong with. Assumes nothing.
-use Rattle.std.specs.Prelude.{ℕ, zero, suc, true, false, List, ◌≡◌, refl, leb, length, get_or}
+use Rattle.std.specs.Prelude.{ℕ, zero, suc, true, false, List, ◌≡◌, refl, leb, ltb, length, get_or, Some, None}
 use Rattle.std.proofs.Common.{sym, arith, leb-true, le-leb, eqb-true, ne_eqb}
 use Rattle.std.proofs.Math.Decide.{dec_le}
-use Rattle.std.proofs.lemmas.Bool.{lt-leb}
+use Rattle.std.proofs.lemmas.Bool.{lt-leb, lt-ltb}
 use Rattle.model.specs.Shares.{greatest_share}
 use Rattle.model.proofs.Laws.Tests.{both_left, both_right, right_fails}
 use Rattle.list_checks.specs.Checks.{are_shares, unit_within, unit_ordered, first_beyond, first_crossed}
-use Rattle.list_checks.specs.Inner.Units.{unit_sound, all_sound}
+use Rattle.list_checks.specs.Inner.Units.{unit_sound, all_sound, place_found}
 use Rattle.list_checks.proofs.Laws.First.{none_failing}
 
 -- a running unit whose high is a share is sound where its low is at most its high
@@ -30,6 +30,16 @@ shut_sound (suc low) high = rw (ne_eqb (suc low) 0 (omega arith)) (sym (right_fa
 -- a unit with another mark is not
 pub mark_unsound : (low high mark : ℕ) → leb mark 1 ≡ false → false ≡ unit_sound low high mark
 mark_unsound low high mark beyond = rw (beyond, right_fails (are_shares low high) refl)
+
+-- a place found is one above 0
+pub place_some : (place found : ℕ) → Some found ≡ place_found place → (ltb 0 place ≡ true) × (place ≡ found)
+place_some zero found e = cc
+place_some (suc i) found e = (lt-ltb 0 (suc i) (omega arith), cc)
+
+-- and none is 0
+pub place_none : (place : ℕ) → None ≡ place_found place → place ≡ 0
+place_none zero e = refl
+place_none (suc i) e = cc
 
 -- where all units are sound, none is beyond its range and none crossed
 pub sound_units : (lows highs marks : List ℕ) → length lows ≡ length highs → length lows ≡ length marks → all_sound lows highs marks ≡ true

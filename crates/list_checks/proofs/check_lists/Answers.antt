@@ -1,14 +1,10 @@
 -- The checks, in turn. Assumes nothing.
-use borrow.Author.Tests.{lt-ltb, le-ltb}
-use mathlib.Core.Bool.{true, false}
-use mathlib.Core.Path.{◌≡◌, sym, ◌∙◌}
-use lib.Dec.{ltb}
-use lib.ListN.{length}
-use Rattle.list_checks.specs.Checks.{first_beyond, first_crossed, sized, check_lists}
+use Rattle.std.proofs.Common.{◌≡◌, true, length, sym, ◌∙◌}
+use Rattle.list_checks.specs.Checks.{unit_within, unit_ordered, first_beyond, first_crossed, sized, check_lists}
 use Rattle.list_checks.proofs.Laws.Findings.{sized_of}
-use Rattle.list_checks.proofs.Laws.Units.{sound_units}
+use Rattle.list_checks.proofs.Laws.Units.{place_some, place_none, sound_units}
 use Rattle.list_checks.proofs.check_lists.Goals as goal
-use Rattle.list_checks.proofs.check_lists.Goals.{Else-beyond-gt0, Else-not-is_sized, Then-are_sound}
+use Rattle.list_checks.proofs.check_lists.Goals.{In_default, Else-not-is_sized, Then-are_sound}
 
 pub returns-then-not-is_sized : goal.returns-then-not-is_sized
 unfolding check_lists
@@ -28,51 +24,45 @@ none-wrong c =
 pub returns-then-amounts : goal.returns-then-amounts
 unfolding check_lists
 returns-then-amounts c =
-    rw (passed-1 (goal.at.returns-then-amounts c).Else-not-is_sized, (none-wrong (goal.at.returns-then-amounts c).Then-are_sound).0, (none-wrong (goal.at.returns-then-amounts c).Then-are_sound).1, c.if-amounts.true)
+    let (beyond, crossed) = none-wrong (goal.at.returns-then-amounts c).Then-are_sound in
+    rw (passed-1 (goal.at.returns-then-amounts c).Else-not-is_sized, beyond, crossed, c.if-amounts.true)
 
 pub returns-then-are_sound : goal.returns-then-are_sound
 unfolding check_lists
 returns-then-are_sound c =
-    rw (passed-1 (goal.at.returns-then-are_sound c).Else-not-is_sized, (none-wrong (goal.at.returns-then-are_sound c).Then-are_sound).0, c.if-amounts.false) c.refused-then-are_sound.ensures
+    let (beyond, crossed) = none-wrong (goal.at.returns-then-are_sound c).Then-are_sound in
+    rw (passed-1 (goal.at.returns-then-are_sound c).Else-not-is_sized, beyond, c.if-amounts.false) c.refused-then-are_sound.ensures
 
-pub returns-then-beyond-gt0 : goal.returns-then-beyond-gt0
+pub returns-in-Some : goal.returns-in-Some
 unfolding check_lists
-returns-then-beyond-gt0 c =
-    rw (
-      passed-1 (goal.at.returns-then-beyond-gt0 c).Else-not-is_sized,
-      ← c.first_failing-beyond.ensures,
-      lt-ltb 0 _ c.if-beyond-gt0.true,
-    )
-    c.refused-then-beyond-gt0.ensures
+returns-in-Some c =
+    let found = place_some _ _ (c.in-Some.ensures unit_within (λ low high mark answer e. e)) in
+    rw (passed-1 (goal.at.returns-in-Some c).Else-not-is_sized, found.0, found.1) c.refused-in-Some.ensures
 
 -- no unit's number is beyond its range
-passed-2 : (c : Else-beyond-gt0) → ltb 0 (first_beyond c.args.lows.now c.args.highs.now c.args.marks.now) ≡ false
-passed-2 c = rw (← c.first_failing-beyond.ensures) (le-ltb 0 _ c.if-beyond-gt0.false)
+passed-2 : (c : In_default) → first_beyond c.args.lows.now c.args.highs.now c.args.marks.now ≡ 0
+passed-2 c = place_none _ (c.in_default.ensures unit_within (λ low high mark answer e. e))
 
 pub returns-then-not-amounts : goal.returns-then-not-amounts
 unfolding check_lists
 returns-then-not-amounts c =
-    rw (passed-1 (goal.at.returns-then-not-amounts c).Else-not-is_sized, passed-2 (goal.at.returns-then-not-amounts c).Else-beyond-gt0, c.if-not-amounts.true) c.refused-then-not-amounts.ensures
+    rw (passed-1 (goal.at.returns-then-not-amounts c).Else-not-is_sized, passed-2 (goal.at.returns-then-not-amounts c).In_default, c.if-not-amounts.true) c.refused-then-not-amounts.ensures
 
-pub returns-then-crossed-gt0 : goal.returns-then-crossed-gt0
+pub returns-in-Some-first_failing : goal.returns-in-Some-first_failing
 unfolding check_lists
-returns-then-crossed-gt0 c =
+returns-in-Some-first_failing c =
+    let found = place_some _ _ (c.in-Some-first_failing.ensures unit_ordered (λ low high mark answer e. e)) in
     rw (
-      passed-1 (goal.at.returns-then-crossed-gt0 c).Else-not-is_sized,
-      passed-2 (goal.at.returns-then-crossed-gt0 c).Else-beyond-gt0,
+      passed-1 (goal.at.returns-in-Some-first_failing c).Else-not-is_sized,
+      passed-2 (goal.at.returns-in-Some-first_failing c).In_default,
       c.if-not-amounts.false,
-      ← c.first_failing-crossed.ensures,
-      lt-ltb 0 _ c.if-crossed-gt0.true,
+      found.0,
+      found.1,
     )
-    c.refused-then-crossed-gt0.ensures
+    c.refused-in-Some-first_failing.ensures
 
 pub returns : goal.returns
 unfolding check_lists
 returns c =
-    rw (
-      passed-1 (goal.at.returns c).Else-not-is_sized,
-      passed-2 (goal.at.returns c).Else-beyond-gt0,
-      c.if-not-amounts.false,
-      ← c.first_failing-crossed.ensures,
-      le-ltb 0 _ c.if-crossed-gt0.false,
-    )
+    let none = place_none _ (c.in_default-first_failing.ensures unit_ordered (λ low high mark answer e. e)) in
+    rw (passed-1 (goal.at.returns c).Else-not-is_sized, passed-2 (goal.at.returns c).In_default, c.if-not-amounts.false, none)

@@ -1,11 +1,15 @@
 -- Units that a check finds nothing wrong with. Assumes nothing.
-use Rattle.std.specs.Prelude.{ℕ, Bool, true, false, ◌&&◌, List, eqb}
+use Rattle.std.specs.Prelude.{ℕ, zero, suc, Bool, ◌&&◌, List, ◌≡◌, eqb, Option, Some, None}
 use Rattle.list_checks.specs.Checks.{unit_within, unit_ordered, first_failing}
 
--- a unit's numbers are in order where that is asked, and else in their ranges
-abbrev pub unit_clear : Bool → ℕ → ℕ → ℕ → Bool
-unit_clear true = unit_ordered
-unit_clear false = unit_within
+-- the place that a search from 1 found, none for 0
+abbrev pub place_found : ℕ → Option ℕ
+place_found zero = None
+place_found (suc i) = Some (suc i)
+
+-- a closure with these results tells the test: of any numbers it answers what the test does
+abbrev pub Tells : (ℕ → ℕ → ℕ → Bool → Type 0) → (ℕ → ℕ → ℕ → Bool) → Type 0
+Tells post test = (low high mark : ℕ) (answer : Bool) → post low high mark answer → answer ≡ test low high mark
 
 -- a unit's numbers are in their ranges and in order
 abbrev pub unit_sound : ℕ → ℕ → ℕ → Bool

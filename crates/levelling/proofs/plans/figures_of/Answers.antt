@@ -94,15 +94,12 @@ loop-i-preserved c =
     let here : i < length shares = omega arith in
     let mark : i < length marks = marked _ _ _ c.requires i here in
     let part : c.if_running-deviation.result ≡ pick (runs (get_or marks i 0)) (apart (c.running_count-count.result * get_or shares i 0) c.args.total) 0 =
-    rw (← c.apart.ensures) c.if_running-deviation.ensures in (
-      omega arith,
-      running_step _ marks shares i mark here _ _ part inv.1,
-      summed_step _ marks shares i mark here _ inv.2,
-    )
+    rw (← c.apart.ensures) c.if_running-deviation.ensures in
+    (running_step _ marks shares i mark here _ _ part inv.0, summed_step _ marks shares i mark here _ inv.1)
 
 pub overflow_add-deviation : goal.overflow_add-deviation
 overflow_add-deviation c =
-    omega (arith, (loop-i-preserved c).1, deviation-bound _ _ _ c.requires _ c.running_count-count.ensures)
+    omega (arith, (loop-i-preserved c).0, deviation-bound _ _ _ c.requires _ c.running_count-count.ensures)
 
 pub overflow_mul-squares : goal.overflow_mul-squares
 overflow_mul-squares c =
@@ -110,18 +107,18 @@ overflow_mul-squares c =
     omega (arith, mul-le-mul bound bound)
 
 pub overflow_add-squares : goal.overflow_add-squares
-overflow_add-squares c = omega (arith, (loop-i-preserved c).2, squares-bound _ _ _ c.requires)
+overflow_add-squares c = omega (arith, (loop-i-preserved c).1, squares-bound _ _ _ c.requires)
 
 pub from_squares-requires : goal.from_squares-requires
 from_squares-requires c =
-    let held = enough _ _ _ c.requires _ c.running_count-count.ensures _ (summed_all _ c.args.shares.now _ _ c.loop-i-test.false c.loop-i.invariant.2) in
+    let held = enough _ _ _ c.requires _ c.running_count-count.ensures _ (summed_all _ c.args.shares.now _ _ (omega arith) c.loop-i.invariant.1) in
     record { total_bound = held.0; squares_bound = held.1 }
 
 pub returns : goal.returns
 returns c =
     let shares = c.args.shares.now in
-    let deviated = summed_running _ c.args.marks.now shares _ _ c.loop-i-test.false c.loop-i.invariant.1 in
-    let squared = summed_all _ shares _ _ c.loop-i-test.false c.loop-i.invariant.2 in
+    let deviated = summed_running _ c.args.marks.now shares _ _ (omega arith) c.loop-i.invariant.0 in
+    let squared = summed_all _ shares _ _ (omega arith) c.loop-i.invariant.1 in
     rw (
       ← deviation-is _ _ _ c.requires _ c.running_count-count.ensures _ deviated,
       ← spread-is _ _ _ c.requires _ c.running_count-count.ensures _ _ squared c.from_squares.ensures,

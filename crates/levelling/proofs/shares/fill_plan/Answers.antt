@@ -15,14 +15,14 @@ use Rattle.levelling.proofs.shares.fill_plan.Goals.{After-one_above}
 
 pub loop-i-init : goal.loop-i-init
 loop-i-init c =
-    (omega arith, c.bar_for-found.ensures.v_le_high, search rules, handing_none c.bar_for-found.ensures.bar _)
+    (c.bar_for-found.ensures.v_le_high, search rules, handing_none c.bar_for-found.ensures.bar _)
 
 -- what the member takes
 taken : (c : After-one_above) → BarTaken (get_or c.args.lows.now c.loop-i.i 0) (get_or c.args.highs.now c.loop-i.i 0) c.args.v
     c.bar_for-found.result.high c.loop-i.rest (c.one_above.result + c.one_at-at.result) (c.loop-i.rest - c.one_at-at.result)
 taken c =
     bar_taken (get_or c.args.lows.now c.loop-i.i 0) (get_or c.args.highs.now c.loop-i.i 0) c.args.v
-    c.bar_for-found.result.high c.loop-i.rest c.loop-i.invariant.1
+    c.bar_for-found.result.high c.loop-i.rest c.loop-i.invariant.0
     (omega (arith, c.one_above.ensures, c.one_at-at.ensures)) (omega (arith, c.one_at-at.ensures))
 
 pub overflow_add-more : goal.overflow_add-more
@@ -51,12 +51,11 @@ overflow_sub-rest c =
 pub loop-i-preserved : goal.loop-i-preserved
 loop-i-preserved c =
     let so_far = c.loop-i.invariant in (
-      search rules,
+      so_far.0,
       so_far.1,
-      so_far.2,
       handing_step c.args.lows.now c.args.highs.now c.loop-i.i (omega arith) (omega (arith, c.requires.has_takers.sound.paired)) c.args.v c.args.left
           _ c.loop-i.rest c.clamp.result (c.one_above.result + c.one_at-at.result) _ _ c.loop-i.plan
-          (omega arith) c.clamp.ensures (taken (goal.at.loop-i-preserved c).After-one_above) so_far.3,
+          (omega arith) c.clamp.ensures (taken (goal.at.loop-i-preserved c).After-one_above) so_far.2,
     )
 
 pub returns : goal.returns
@@ -64,5 +63,5 @@ returns c =
     let n = length c.args.lows.now in
     let many : length c.bar_for-found.new.numbers ≡ n = search rules in
     rw (drop_at c.bar_for-found.new.numbers (drop n c.args.plan.now) n many) at
-    (written_all c.args.lows.now c.args.highs.now c.args.v c.args.left c.loop-i.invariant.3.copies c.loop-i.i
-    _ c.loop-i.plan (omega arith) c.loop-i.invariant.3.written)
+    (written_all c.args.lows.now c.args.highs.now c.args.v c.args.left c.loop-i.invariant.2.copies c.loop-i.i
+    _ c.loop-i.plan (omega arith) c.loop-i.invariant.2.written)
