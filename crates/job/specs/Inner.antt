@@ -5,3 +5,4 @@ pub mod Placed
 pub mod Reading
 pub mod Steps
 pub mod Taking
+pub mod Verdicts

@@ -1,15 +1,15 @@
 -- The answers of reading, and what it leaves in the lists. Assumes nothing.
-use Rattle.std.specs.Prelude.{ℕ, ◌&&◌, List, ◌++◌, ◌≡◌, leb, length, drop}
+use Rattle.std.specs.Prelude.{ℕ, ◌&&◌, List, ◌++◌, ◌≡◌, leb, length, drop, Result, Ok, Err}
 use Rattle.model.specs.Shares.{pick}
 use Rattle.job.specs.Job.{JobOrRefusal, accepted, refused, read_job}
-use Rattle.job.specs.declared.Reading.{Reading}
+use Rattle.job.specs.declared.Counts.{Counts}
 use Rattle.model.specs.Refusals.{refusal}
-use Rattle.job.specs.declared.Reading.TheVariants.{Read, Refused}
+use Rattle.model.specs.declared.Refusal.{Refusal}
 
 -- 01: the counts of units and groups, or the refusal's number and place
-abbrev pub reading_of : JobOrRefusal → Reading
-reading_of (accepted job) = Read (length job.lows) (length job.groups)
-reading_of (refused r) = Refused r
+abbrev pub reading_of : JobOrRefusal → Result Counts Refusal
+reading_of (accepted job) = Ok (record { units = length job.lows; groups = length job.groups })
+reading_of (refused r) = Err r
 
 -- 01: then 1 for a table too short for the units
 unfoldable pub fit_table : ℕ → ℕ → JobOrRefusal → JobOrRefusal
@@ -32,7 +32,7 @@ highs_after (accepted job) highs = job.highs ++ drop (length job.lows) highs
 highs_after (refused r) highs = highs
 
 -- what reading a text into a table answers, and what it leaves there
-pub record ReadInto (text lows₀ highs₀ lows highs : List ℕ) (r : Reading) : Type 0 where
+pub record ReadInto (text lows₀ highs₀ lows highs : List ℕ) (r : Result Counts Refusal) : Type 0 where
   pub answer : r ≡ reading_of (read_table text (length lows₀) (length highs₀))
   pub lows_are : lows ≡ lows_after (read_table text (length lows₀) (length highs₀)) lows₀
   pub highs_are : highs ≡ highs_after (read_table text (length lows₀) (length highs₀)) highs₀

@@ -8,32 +8,37 @@ ghost use Rattle.job.specs.Inner.Reading.{GroupsScanned, Scanned, FilledBy};
 ghost use Rattle.job.specs.Reading.{ReadInto};
 
 use groups::MOST_FLAT;
-use model::lists::{copy, room};
+use model::lists::room;
 use model::{MOST_UNITS, Refusal};
 use reader::scan_lines;
 
 pub mod reader;
 pub mod steps;
 
-// What reading answers: the counts of units and groups, or a refusal.
+// How many units and groups a job has.
 #[derive(Clone, Copy)]
-pub enum Reading {
-    Read { units: usize, groups: usize },
-    Refused(Refusal),
+pub struct Counts {
+    pub units: usize,
+    pub groups: usize,
 }
 
 pub const MOST_BYTES: usize = 65_536;
 
 // A refusal that no line causes.
-fn refused(number: u64) -> Reading
-    ensures { result ≡ Reading.Refused (record { number = number; place = 0 }) }
+fn refused(number: u64) -> Result<Counts, Refusal>
+    ensures { result ≡ Err (record { number = number; place = 0 }) }
 {
-    Reading::Refused(Refusal { number, place: 0 })
+    Err(Refusal { number, place: 0 })
 }
 
 // Reads a whole text: its ranges to the front of lows and highs, its groups to the front of the flat list, its marks behind the room for groups.
 #[tactic(auto, using(crate::proofs::Laws::Scanning::too_long, crate::proofs::Laws::Scanning::scanned_refused))]
-fn scan(text: &[u8], lows: &mut [u64], highs: &mut [u64], flat: &mut [u64]) -> Reading
+fn scan(
+    text: &[u8],
+    lows: &mut [u64],
+    highs: &mut [u64],
+    flat: &mut [u64],
+) -> Result<Counts, Refusal>
     requires { (most_units ≤ length lows.old) × (most_units ≤ length highs.old) × (most_flat ≤ length flat.old) }
     ensures { Scanned text.now lows.old highs.old flat.old lows.new highs.new flat.new result }
 {
@@ -44,21 +49,13 @@ fn scan(text: &[u8], lows: &mut [u64], highs: &mut [u64], flat: &mut [u64]) -> R
 }
 
 // Reads a whole text for its groups and marks alone, into the flat list; its ranges are left aside.
-pub fn scan_groups(text: &[u8], flat: &mut [u64]) -> Reading
+pub fn scan_groups(text: &[u8], flat: &mut [u64]) -> Result<Counts, Refusal>
     requires { most_flat ≤ length flat.old }
     ensures { GroupsScanned text.now flat.old flat.new result }
 {
     let mut lows = room();
     let mut highs = room();
     scan(text, &mut lows, &mut highs, flat)
-}
-
-// Copies the first numbers of a list to the front of another.
-fn copy_front(from: &[u64], to: &mut [u64], count: usize)
-    requires { (count ≤ length from.now) × (count ≤ length to.old) }
-    ensures { to.new ≡ take count from.now ++ drop count to.old }
-{
-    copy(&from[..count], &mut to[..count]);
 }
 
 // Fills a table that is long enough from the front of lists that hold a job's units.
@@ -68,21 +65,21 @@ fn fill(
     greatest: &[u64],
     lows: &mut [u64],
     highs: &mut [u64],
-    units: usize,
-    groups: usize,
-) -> Reading
-    requires { (units ≤ length least.now) × (units ≤ length greatest.now) }
-    ensures { FilledBy least.now greatest.now units groups lows.old highs.old lows.new highs.new result }
+    counts: Counts,
+) -> Result<Counts, Refusal>
+    requires { (counts.units ≤ length least.now) × (counts.units ≤ length greatest.now) }
+    ensures { FilledBy least.now greatest.now counts.units counts.groups lows.old highs.old lows.new highs.new result }
 {
+    let units = counts.units;
     if lows.len() < units {
         return refused(1);
     }
     if highs.len() < units {
         return refused(1);
     }
-    copy_front(least, lows, units);
-    copy_front(greatest, highs, units);
-    Reading::Read { units, groups }
+    lows[..units].copy_from_slice(&least[..units]);
+    highs[..units].copy_from_slice(&greatest[..units]);
+    Ok(counts)
 }
 
 // Reads a text into a table, by way of lists that hold every job.
@@ -93,19 +90,16 @@ fn read_by(
     least: &mut [u64],
     greatest: &mut [u64],
     flat: &mut [u64],
-) -> Reading
+) -> Result<Counts, Refusal>
     requires { (most_units ≤ length least.old) × (most_units ≤ length greatest.old) × (most_flat ≤ length flat.old) }
     ensures { ReadInto text.now lows.old highs.old lows.new highs.new result }
 {
-    let reading = scan(text, least, greatest, flat);
-    let Reading::Read { units, groups } = reading else {
-        return reading;
-    };
-    fill(least, greatest, lows, highs, units, groups)
+    let counts = scan(text, least, greatest, flat)?;
+    fill(least, greatest, lows, highs, counts)
 }
 
 // Reads a job text: fills the table from its unit lines, and answers the counts of units and groups, or a refusal.
-pub fn read(text: &[u8], lows: &mut [u64], highs: &mut [u64]) -> Reading
+pub fn read(text: &[u8], lows: &mut [u64], highs: &mut [u64]) -> Result<Counts, Refusal>
     ensures { ReadInto text.now lows.old highs.old lows.new highs.new result }
 {
     let mut least = [0u64; MOST_UNITS];

@@ -6,8 +6,9 @@ ghost use Rattle.job.specs.Inner.Steps.{Bounded, LineTaken};
 ghost use Rattle.job.specs.Inner.Reading.{Scanned, counts_of};
 ghost use Rattle.model.specs.Shares.{most_units};
 
-use crate::steps::{Progress, TakenLine, take_line};
-use crate::{Reading, refused};
+use crate::steps::{Progress, take_line};
+use crate::{Counts, refused};
+use model::Refusal;
 use text::Spot;
 
 // The job text, with the spot that reading has reached.
@@ -39,7 +40,7 @@ impl<'a> Reader<'a> {
         lows: &mut [u64],
         highs: &mut [u64],
         flat: &mut [u64],
-    ) -> TakenLine
+    ) -> Result<(Progress, Spot), Refusal>
         requires { Bounded progress × (length self.text.now ≤ most_bytes) × (most_units ≤ length lows.old) × (most_units ≤ length highs.old) × (most_flat ≤ length flat.old) }
         ensures { LineTaken self.entry.text.now progress self.entry.at lows.old highs.old flat.old lows.new highs.new flat.new result }
     {
@@ -60,21 +61,25 @@ impl<'a> Reader<'a> {
 
 // What the lines of a text come to: the counts, or 10 where there is no unit line.
 #[tactic(auto, unfolding(crate::specs::Inner::Reading::counts_of))]
-fn counted(progress: Progress) -> Reading
+fn counted(progress: Progress) -> Result<Counts, Refusal>
     ensures { result ≡ counts_of progress }
 {
-    let units = progress.units;
-    if units == 0 {
+    if progress.units == 0 {
         return refused(10);
     }
-    Reading::Read {
-        units,
+    Ok(Counts {
+        units: progress.units,
         groups: progress.groups,
-    }
+    })
 }
 
 // Reads a text that is not too long, line by line.
-pub fn scan_lines(text: &[u8], lows: &mut [u64], highs: &mut [u64], flat: &mut [u64]) -> Reading
+pub fn scan_lines(
+    text: &[u8],
+    lows: &mut [u64],
+    highs: &mut [u64],
+    flat: &mut [u64],
+) -> Result<Counts, Refusal>
     requires { (length text.now ≤ most_bytes) × (most_units ≤ length lows.old) × (most_units ≤ length highs.old) × (most_flat ≤ length flat.old) }
     ensures { Scanned text.now lows.old highs.old flat.old lows.new highs.new flat.new result }
 {
@@ -85,15 +90,9 @@ pub fn scan_lines(text: &[u8], lows: &mut [u64], highs: &mut [u64], flat: &mut [
         memberships: 0,
     };
     while !reader.at_end() {
-        match reader.take_line(progress, lows, highs, flat) {
-            TakenLine::Line(more, next) => {
-                progress = more;
-                reader = reader.moved(next);
-            }
-            TakenLine::Refused(refusal) => {
-                return Reading::Refused(refusal);
-            }
-        }
+        let (more, next) = reader.take_line(progress, lows, highs, flat)?;
+        progress = more;
+        reader = reader.moved(next);
     }
     counted(progress)
 }

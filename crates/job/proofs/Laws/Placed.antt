@@ -1,6 +1,6 @@
 -- The members of a group line in the flat list: the verdict on what is stored is the verdict on the line. Assumes nothing.
-use Rattle.std.specs.Prelude.{ℕ, zero, suc, ◌+◌, ◌≤◌, Bool, true, false, List, ◌++◌, map, ◌≡◌, refl, length, take, drop}
-use Rattle.std.proofs.Common.{append_assoc, ap, ◌∙◌, arith, take_at, drop_at, length-take-le}
+use Rattle.std.specs.Prelude.{ℕ, zero, suc, ◌+◌, ◌≤◌, Bool, true, false, List, ◌++◌, map, ◌≡◌, refl, length, take, drop, Ok}
+use Rattle.std.proofs.Common.{append_assoc, ap, sym, ◌∙◌, arith, take_at, drop_at, length-take-le}
 use Rattle.std.proofs.lemmas.List.{length-map}
 use Rattle.std.proofs.lemmas.List.Edits.{sets, sets-eq}
 use Rattle.std.proofs.Math.Seq.{length-sets}
@@ -12,10 +12,12 @@ use Rattle.model.specs.Refusals.{unless}
 use Rattle.form.specs.Form.{limits_said}
 use Rattle.job.specs.Job.{first_refusal, head_verdict, members_verdict, distinct}
 use Rattle.form.specs.Named.{all_named, member_of}
+use Rattle.job.specs.Inner.Verdicts.{verdict_answer}
+use Rattle.job.specs.Inner.Taking.{place_at}
 use Rattle.job.specs.Inner.Placed.{head_number, group_number, Placed}
 use Rattle.job.proofs.Laws.Distinct.{distinct_members, members_below}
 use Rattle.form.specs.Laws.Tally.{GroupFacts, numbers_of}
-use Rattle.job.proofs.Laws.Verdicts.{head_good}
+use Rattle.job.proofs.Laws.Verdicts.{HeadGood, head_good, first_zero, no_refusal}
 use Rattle.model.specs.Shares.{most_units}
 
 -- where the members of the next group line begin
@@ -70,3 +72,15 @@ module _ (p : Progress) (head : Head) (m : Members) {flat flat' s r : List ℕ}
   placed_number =
       first_alike (head_number p head m) (λ e. members_alike p.units (numbers_of f.line) _ m.within f.all_within (part e))
       ∙ rw (f.total, f.limits, f.counted)
+
+  -- so a group line that the code takes has the verdict 0
+  pub placed_taken : {u : Unit} → Ok u ≡ verdict_answer (group_number p head m flat' (members_from p)) (place_at p)
+      → first_refusal (head_verdict p.groups p.memberships f.line.heading.total (limits_said f.line.heading) (length (numbers_of f.line)))
+      (members_verdict p.units (numbers_of f.line))
+      ≡ 0
+  placed_taken e = sym placed_number ∙ no_refusal _ _ e
+
+  -- and its head has no refusal
+  pub placed_good : {u : Unit} → Ok u ≡ verdict_answer (group_number p head m flat' (members_from p)) (place_at p)
+      → HeadGood p.groups p.memberships f.line.heading.total (limits_said f.line.heading) (length (numbers_of f.line))
+  placed_good e = head_good _ _ _ _ _ (first_zero _ _ (placed_taken e)).0

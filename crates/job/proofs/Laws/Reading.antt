@@ -1,5 +1,5 @@
 -- Laws of the answers of reading, and of what it leaves in the lists. Assumes nothing.
-use Rattle.std.specs.Prelude.{ℕ, zero, suc, ◌≤◌, ◌<◌, Bool, ◌&&◌, List, [], ◌∷◌, ◌++◌, refl, leb, length, take, drop}
+use Rattle.std.specs.Prelude.{ℕ, zero, suc, ◌≤◌, ◌<◌, Bool, ◌&&◌, List, [], ◌∷◌, ◌++◌, refl, leb, length, take, drop, Ok, Err}
 use Rattle.std.proofs.Math.Bool.{true, false}
 use Rattle.std.proofs.Math.Path.{◌≡◌}
 use Rattle.std.proofs.Common.{ap, arith, length-append, take_at}
@@ -11,7 +11,7 @@ use Rattle.form.specs.Form.{range, shut, Line, unit, group, print_line, line}
 use Rattle.form.specs.Laws.Spelling.{printed_line_lem}
 use Rattle.job.specs.Job.{Job, next, stop, step_on, verdict, judged, add, place_of, JobOrRefusal, accepted, refused, onward, read_lines}
 use Rattle.job.specs.Job.{read_job}
-use Rattle.job.specs.declared.Reading.TheVariants.{Read, Refused}
+use Rattle.job.specs.declared.Counts.{Counts}
 use Rattle.job.specs.Inner.Reading.{Fronts}
 use Rattle.job.specs.Reading.{reading_of, fit_table, read_table, ReadInto}
 use Rattle.model.specs.Refusals.{refusal}
@@ -61,14 +61,14 @@ read_end (suc n) job = refl
 
 -- a text refused leaves the table
 pub filled_refused : (text lows highs : List ℕ) (r : Refusal) → read_table text (length lows) (length highs) ≡ refused r
-    → ReadInto text lows highs lows highs (Refused r)
+    → ReadInto text lows highs lows highs (Err r)
 filled_refused text lows highs r e = record { answer = rw e; lows_are = rw e; highs_are = rw e }
 
 -- a text accepted fills it from the front of the lists that hold the job
 pub filled_accepted : (text lows₀ highs₀ : List ℕ) {lows highs least greatest : List ℕ} {job : Job} {units groups : ℕ}
     → read_table text (length lows₀) (length highs₀) ≡ accepted job → Fronts least greatest units groups job
     → lows ≡ take units least ++ drop units lows₀ → highs ≡ take units greatest ++ drop units highs₀
-    → ReadInto text lows₀ highs₀ lows highs (Read units groups)
+    → ReadInto text lows₀ highs₀ lows highs (Ok (record { units = units; groups = groups }))
 filled_accepted text lows₀ highs₀ {job = job} {units = units} e f a b =
     record {
       answer = rw (e, f.units_are, f.groups_are);
@@ -85,13 +85,15 @@ fronts_long {job = job} f = (
 )
 
 -- the outcome behind an answer
-pub accepted_by : (o : JobOrRefusal) (units groups : ℕ) → Read units groups ≡ reading_of o
+pub accepted_by : (o : JobOrRefusal) (units groups : ℕ) → Ok (record { units = units; groups = groups }) ≡ reading_of o
     → (job : Job) × (o ≡ accepted job) × (length job.lows ≡ units) × (length job.groups ≡ groups)
-accepted_by (accepted job) units groups h = (job, refl, cc, cc)
+accepted_by (accepted job) units groups h =
+    let same : ◌≡◌ {A = Counts} (record { units = length job.lows; groups = length job.groups }) (record { units = units; groups = groups }) = cc in
+    (job, refl, ap (λ (c : Counts). c.units) same, ap (λ (c : Counts). c.groups) same)
 accepted_by (refused r) units groups h = absurd (let z : ◌≡◌ {A = ℕ} 0 1 = cc in omega arith)
 
 -- the refusal behind an answer
-pub refused_by_lem : (o : JobOrRefusal) (r : Refusal) → Refused r ≡ reading_of o → o ≡ refused r
+pub refused_by_lem : (o : JobOrRefusal) (r : Refusal) → Err r ≡ reading_of o → o ≡ refused r
 refused_by_lem (accepted job) r h = absurd (let z : ◌≡◌ {A = ℕ} 0 1 = cc in omega arith)
 refused_by_lem (refused q) r h = cc
 

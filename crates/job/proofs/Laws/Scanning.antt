@@ -1,5 +1,5 @@
 -- Scanning a text line by line: what holds at each line, and what that says at the end. Assumes nothing.
-use Rattle.std.specs.Prelude.{ℕ, ◌≤◌, ◌<◌, List, ◌≡◌, refl, length, drop}
+use Rattle.std.specs.Prelude.{ℕ, ◌≤◌, ◌<◌, List, ◌≡◌, refl, length, drop, Ok, Err}
 use Rattle.std.proofs.Common.{sym, ap, ◌∙◌, arith, le-leb, eq-eqb, ne_eqb, length-drop, drop_of_length-le}
 use Rattle.std.proofs.Math.Decide.{ℕ_discrete}
 use Rattle.std.proofs.lemmas.Bool.{lt-leb}
@@ -11,13 +11,11 @@ use Rattle.groups.specs.Laws.Storing.{length_flatten}
 use Rattle.job.specs.Job.{Job, no_lines, stop, step_on, JobOrRefusal, accepted, refused, read_lines, some_unit, read_job}
 use Rattle.form.specs.Form.{most_bytes}
 use Rattle.job.specs.Inner.Steps.{lists, ReadSoFar, Answers}
-use Rattle.job.specs.declared.steps.TakenLine.TheVariants as taken
 use Rattle.text.specs.declared.Spot.{Spot}
 use Rattle.job.specs.Inner.Reading.{Scanned, counts_of}
 use Rattle.job.proofs.Laws.Reading.{read_next, read_stop, read_end}
 use Rattle.job.specs.declared.steps.Progress.{Progress}
 use Rattle.model.specs.Refusals.{refusal}
-use Rattle.job.specs.declared.Reading.TheVariants.{Read, Refused}
 
 -- at a spot before a line: a job is held, and the lines from there on are those of the text after the job's
 pub record Going (text lows₀ highs₀ flat₀ lows highs flat : List ℕ) (at : ℕ) (p : Progress) : Type 0 where
@@ -96,7 +94,7 @@ never e f = let z : ◌≡◌ {A = ℕ} 0 1 = cc in omega arith
 
 module _ (text lows₀ highs₀ flat₀ lows highs flat : List ℕ) where
   -- a refusal says nothing of the lists
-  pub scanned_refused : (r : Refusal) → read_job text ≡ refused r → Scanned text lows₀ highs₀ flat₀ lows highs flat (Refused r)
+  pub scanned_refused : (r : Refusal) → read_job text ≡ refused r → Scanned text lows₀ highs₀ flat₀ lows highs flat (Err r)
   scanned_refused r e =
       record {
         groups = record { answer = rw e; found_flat = λ job f. absurd (never e f); found_marks = λ job f. absurd (never e f) };
@@ -107,7 +105,7 @@ module _ (text lows₀ highs₀ flat₀ lows highs flat : List ℕ) where
 
   -- an accepted text is held in the lists
   pub scanned_accepted : (job : Job) (p : Progress) → read_job text ≡ accepted job → ReadSoFar job p (lists lows₀ highs₀ flat₀ lows highs flat)
-      → Scanned text lows₀ highs₀ flat₀ lows highs flat (Read p.units p.groups)
+      → Scanned text lows₀ highs₀ flat₀ lows highs flat (Ok (record { units = p.units; groups = p.groups }))
   scanned_accepted job p e holds =
       let held : (k : Job) → read_job text ≡ accepted k → job ≡ k = λ k f. cc in
       record {
@@ -124,7 +122,7 @@ module _ (text lows₀ highs₀ flat₀ lows highs flat : List ℕ) where
 -- a line more
 pub on_line : {text lows₀ highs₀ flat₀ lows highs flat lows' highs' flat' : List ℕ} {at : ℕ} {p : Progress}
     (g : Going text lows₀ highs₀ flat₀ lows highs flat at p) (q : Progress) (spot : Spot) → at < length text
-    → Answers text (lists lows₀ highs₀ flat₀ lows' highs' flat') (taken.Line q spot) (step_on g.job (drop at text) (line (drop at text)))
+    → Answers text (lists lows₀ highs₀ flat₀ lows' highs' flat') (Ok (q, spot)) (step_on g.job (drop at text) (line (drop at text)))
     → length lows' ≡ length lows → length highs' ≡ length highs → length flat' ≡ length flat
     → (length (drop spot.at text) < length (drop at text)) × Going text lows₀ highs₀ flat₀ lows' highs' flat' spot.at q
 on_line {text} {at = at} g q spot h a ll hl fl =
@@ -162,7 +160,7 @@ module _ {text lows₀ highs₀ flat₀ lows highs flat : List ℕ} {at : ℕ} {
 
   -- a line is refused, and its refusal is the answer, whatever the lists hold
   pub scanned_stop : (lows' highs' flat' : List ℕ) (r : Refusal) → at < length text → step_on g.job (drop at text) (line (drop at text)) ≡ stop r
-      → Scanned text lows₀ highs₀ flat₀ lows' highs' flat' (Refused r)
+      → Scanned text lows₀ highs₀ flat₀ lows' highs' flat' (Err r)
   scanned_stop lows' highs' flat' r h a = scanned_refused _ _ _ _ _ _ _ r (line_refused _ short r (off_line g r h a))
 
 -- a moment of the reading: the spot before a line, and what was read up to it

@@ -1,5 +1,5 @@
 -- Taking a line: the code's tests and stores do to its lists what the line does to the job. Assumes nothing.
-use Rattle.std.specs.Prelude.{ℕ, zero, suc, ◌+◌, ◌≤◌, ◌<◌, Bool, List, [], ◌∷◌, ◌++◌, map, ◌≡◌, refl, length, drop, set}
+use Rattle.std.specs.Prelude.{ℕ, zero, suc, ◌+◌, ◌≤◌, ◌<◌, Bool, List, [], ◌∷◌, ◌++◌, map, ◌≡◌, refl, length, drop, set, Err}
 use Rattle.std.proofs.Common.{sym, ◌∙◌, arith, length-append, length-drop}
 use Rattle.std.proofs.Math.Path.{ap}
 use Rattle.std.proofs.Math.ListN.{length-map}
@@ -17,6 +17,7 @@ use Rattle.form.specs.Named.{member_of}
 use Rattle.job.specs.Job.{judged, next, stop, step_on}
 use Rattle.form.specs.Laws.Tally.{numbers_of}
 use Rattle.job.proofs.Laws.Verdicts.{unit_good, head_good}
+use Rattle.job.specs.Inner.Verdicts.{verdict_answer}
 use Rattle.job.specs.Inner.Steps.{Lists, ReadSoFar}
 use Rattle.form.specs.Inner.LinesRead.{kept_unit}
 use Rattle.form.specs.declared.Unit.{Unit}
@@ -25,10 +26,16 @@ use Rattle.job.specs.Inner.Taking.{place_at}
 use Rattle.model.specs.Shares.{most_units}
 use Rattle.text.specs.Ailments.{front_line, ailment_of}
 use Rattle.model.specs.Refusals.{refusal}
+use Rattle.model.specs.declared.Refusal.{Refusal}
 
 judged_stop : (v : ℕ) (job : Job) (s : List ℕ) (place : ℕ) → (v ≡ 0 → ⊥) → judged v job s place ≡ stop (refusal v place)
 judged_stop zero job s place n = absurd (n refl)
 judged_stop (suc v) job s place n = refl
+
+-- a verdict that the code answers with a refusal stops the reading with it
+judged_err : (v : ℕ) (job : Job) (s : List ℕ) (place : ℕ) {r : Refusal} → Err r ≡ verdict_answer v place → judged v job s place ≡ stop r
+judged_err zero job s place e = cc
+judged_err (suc v) job s place e = cc
 
 -- the verdict on a unit line is that on its low and high as the code keeps them
 pub verdict_kept : (p : Progress) (l : UnitLine) (u : Unit) → kept_unit l ≡ u
@@ -54,6 +61,12 @@ module _ (job : Job) (p : Progress) (l : Lists) (holds : ReadSoFar job p l) wher
       → step_on job from (parsed (unit u) s) ≡ stop (refusal v (place_at p))
   unfolding step_on
   unit_refused u from s v e n = rw (unit_verdict_lem u, ← e, judged_stop v (add job (unit u)) s (place_of job) n, place_held)
+
+  -- a unit line that the code answers with a refusal
+  pub unit_err : (u : UnitLine) (from s : List ℕ) {r : Refusal} → Err r ≡ verdict_answer (unit_verdict p.units p.groups u) (place_at p)
+      → step_on job from (parsed (unit u) s) ≡ stop r
+  unfolding step_on
+  unit_err u from s e = rw (unit_verdict_lem u, place_held) (judged_err _ (add job (unit u)) s (place_at p) e)
 
   -- a unit line without one
   pub unit_next : (u : UnitLine) (from s : List ℕ) → unit_verdict p.units p.groups u ≡ 0 → step_on job from (parsed (unit u) s) ≡ next (add job (unit u)) s
@@ -121,6 +134,11 @@ module _ (job : Job) (p : Progress) (l : Lists) (holds : ReadSoFar job p l) (g :
   pub group_refused : (from s : List ℕ) (v : ℕ) → v ≡ group_verdict → (v ≡ 0 → ⊥) → step_on job from (parsed (group g) s) ≡ stop (refusal v (place_at p))
   unfolding step_on
   group_refused from s v e n = rw (group_verdict_lem, ← e, judged_stop v (add job (group g)) s (place_of job) n, place_held job p l holds)
+
+  -- a group line that the code answers with a refusal
+  pub group_err : (from s : List ℕ) {r : Refusal} → Err r ≡ verdict_answer group_verdict (place_at p) → step_on job from (parsed (group g) s) ≡ stop r
+  unfolding step_on
+  group_err from s e = rw (group_verdict_lem, place_held job p l holds) (judged_err _ (add job (group g)) s (place_at p) e)
 
   -- a group line without one
   pub group_next : (from s : List ℕ) → group_verdict ≡ 0 → step_on job from (parsed (group g) s) ≡ next (add job (group g)) s

@@ -1,5 +1,5 @@
 -- What a line without a refusal satisfies. Assumes nothing.
-use Rattle.std.specs.Prelude.{ℕ, zero, suc, ◌+◌, ◌≤◌, ◌<◌, true, List, ◌≡◌, refl, leb, ltb, eqb}
+use Rattle.std.specs.Prelude.{ℕ, zero, suc, ◌+◌, ◌≤◌, ◌<◌, true, List, ◌≡◌, refl, leb, ltb, eqb, Ok}
 use Rattle.std.proofs.Common.{arith, le-leb, lt-ltb, eq-eqb, leb-true, ltb-true, eqb-true}
 use Rattle.model.specs.Figures.{greatest_deviation, greatest_spread, greatest_pairs, limit_within}
 use Rattle.groups.specs.Inner.Flat.{limit_code}
@@ -12,6 +12,12 @@ use Rattle.model.specs.declared.Limits.{Limits}
 use Rattle.form.specs.Form.{UnitLine, shut, line_low, line_high}
 use Rattle.job.specs.Job.{most_groups, most_memberships, distinct, unit_verdict, head_verdict, members_verdict, first_refusal}
 use Rattle.form.specs.Named.{all_named}
+use Rattle.job.specs.Inner.Verdicts.{verdict_answer}
+
+-- a verdict that the code answers with no refusal is 0
+pub no_refusal : (v place : ℕ) {u : Unit} → Ok u ≡ verdict_answer v place → v ≡ 0
+no_refusal zero place e = refl
+no_refusal (suc v) place e = cc
 
 -- the first that is one is the verdict
 pub first_some : {a : ℕ} (b : ℕ) → (a ≡ 0 → ⊥) → a ≡ first_refusal a b

@@ -1,5 +1,5 @@
 -- What the code holds of a job while it reads, and what taking a line does to it. Assumes nothing.
-use Rattle.std.specs.Prelude.{ℕ, ◌≤◌, List, ◌++◌, ◌≡◌, length, drop}
+use Rattle.std.specs.Prelude.{ℕ, ◌≤◌, List, ◌++◌, ◌≡◌, length, drop, Result, Ok, Err}
 use Rattle.std.proofs.lemmas.List.Edits.{sets}
 use Rattle.text.specs.Parsed.{mapped, parsed}
 use Rattle.text.specs.Inner.Numbers.{held}
@@ -9,10 +9,10 @@ use Rattle.groups.specs.Inner.Flat.{flatten, flat_length, marks_from, marks_in}
 use Rattle.job.specs.Job.{Job, most_groups, most_memberships, LineStep, next, stop, step_on}
 use Rattle.form.specs.declared.Unit.{Unit}
 use Rattle.job.specs.declared.steps.Progress.{Progress}
-use Rattle.job.specs.declared.steps.TakenLine.{TakenLine}
 use Rattle.form.specs.Inner.LinesRead.{kept_unit}
 use Rattle.model.specs.Shares.{most_units}
-use Rattle.job.specs.declared.steps.TakenLine.TheVariants as taken
+use Rattle.text.specs.declared.Spot.{Spot}
+use Rattle.model.specs.declared.Refusal.{Refusal}
 
 -- the counts are within 01's limits
 pub record Bounded (p : Progress) : Type 0 where
@@ -42,10 +42,14 @@ pub record ReadSoFar (job : Job) (p : Progress) (l : Lists) : Type 0 where
   pub flat : l.flat ≡ flatten job.groups ++ drop (flat_length p.groups p.memberships) (sets l.flat₀ marks_from job.marks)
   pub kept : marks_in p.units l.flat ≡ job.marks
 
+-- what taking a line answers: what was read with it and the spot after it, or its refusal
+abbrev pub LineAnswer : Type 0
+LineAnswer = Result (Progress × Spot) Refusal
+
 -- an answer says what a line did
-abbrev pub Answers : List ℕ → Lists → TakenLine → LineStep → Type 0
-Answers text l (taken.Line p spot) stepped = (job : Job) × (stepped ≡ next job (drop spot.at text)) × ReadSoFar job p l
-Answers text l (taken.Refused r) stepped = stepped ≡ stop r
+abbrev pub Answers : List ℕ → Lists → LineAnswer → LineStep → Type 0
+Answers text l (Ok (p, spot)) stepped = (job : Job) × (stepped ≡ next job (drop spot.at text)) × ReadSoFar job p l
+Answers text l (Err r) stepped = stepped ≡ stop r
 
 -- the lists, given one by one
 abbrev pub lists : List ℕ → List ℕ → List ℕ → List ℕ → List ℕ → List ℕ → Lists
@@ -53,21 +57,21 @@ lists lows₀ highs₀ flat₀ lows highs flat =
     record { lows₀ = lows₀; highs₀ = highs₀; flat₀ = flat₀; lows = lows; highs = highs; flat = flat }
 
 -- taking a unit line that the code keeps so, whatever the job so far
-abbrev pub UnitTaken : Progress → Unit → ℕ → List ℕ → List ℕ → List ℕ → List ℕ → List ℕ → List ℕ → TakenLine → Type 0
+abbrev pub UnitTaken : Progress → Unit → ℕ → List ℕ → List ℕ → List ℕ → List ℕ → List ℕ → List ℕ → LineAnswer → Type 0
 UnitTaken p u at lows highs flat lows' highs' flat' r =
     (text from : List ℕ) (job : Job) (lows₀ highs₀ flat₀ : List ℕ) (l : UnitLine) → kept_unit l ≡ u
     → ReadSoFar job p (lists lows₀ highs₀ flat₀ lows highs flat)
     → Answers text (lists lows₀ highs₀ flat₀ lows' highs' flat') r (step_on job from (parsed (unit l) (drop at text)))
 
 -- taking a group line
-abbrev pub GroupTaken : List ℕ → Progress → ℕ → List ℕ → List ℕ → TakenLine → Type 0
+abbrev pub GroupTaken : List ℕ → Progress → ℕ → List ℕ → List ℕ → LineAnswer → Type 0
 GroupTaken text p at flat flat' r =
     (job : Job) (lows₀ highs₀ flat₀ lows highs : List ℕ)
     → ReadSoFar job p (lists lows₀ highs₀ flat₀ lows highs flat)
     → Answers text (lists lows₀ highs₀ flat₀ lows highs flat') r (step_on job (drop at text) (mapped group (group_as held (drop at text))))
 
 -- taking a line
-abbrev pub LineTaken : List ℕ → Progress → ℕ → List ℕ → List ℕ → List ℕ → List ℕ → List ℕ → List ℕ → TakenLine → Type 0
+abbrev pub LineTaken : List ℕ → Progress → ℕ → List ℕ → List ℕ → List ℕ → List ℕ → List ℕ → List ℕ → LineAnswer → Type 0
 LineTaken text p at lows highs flat lows' highs' flat' r =
     (job : Job) (lows₀ highs₀ flat₀ : List ℕ)
     → ReadSoFar job p (lists lows₀ highs₀ flat₀ lows highs flat)
