@@ -1,4 +1,4 @@
-// The lines of a job text, written into a buffer.
+// The lines of a job text, written on a page.
 #![tactic(auto)]
 
 ghost use Rattle.std.specs.Prelude.{◌+◌, ◌≤◌, suc, ◌≡◌, length};
@@ -15,134 +15,119 @@ ghost use Rattle.job_lines.specs.Texts.{range_line, range_lines, pairs_written, 
 
 use groups::{Stored, group_at};
 use model::{Limit, Limits, RUNNING};
-use print::{put_form, put_item, put_line, put_number, put_word};
+use print::Page;
 
-// Writes a unit's line, its range or the word shut, and hands back the index after it.
+// Writes a unit's line, its range or the word shut.
 #[tactic(auto, using(crate::specs::Laws::Pieces::line_runs, crate::specs::Laws::Pieces::line_shut))]
-fn put_range_line(buffer: &mut [u8], at: usize, mark: u64, low: u64, high: u64) -> usize
-    requires { Room buffer.old at (range_line mark low high) }
-    ensures { Wrote (range_line mark low high) buffer.old at buffer.new result }
+fn put_range_line(page: &mut Page, mark: u64, low: u64, high: u64)
+    requires { Room page.old.bytes.now page.old.at (range_line mark low high) }
+    ensures wrote { Wrote (range_line mark low high) page.old.bytes.now page.old.at page.new.bytes.now page.new.at }
+    ensures same_reference { page.new.bytes.ghost_name ≡ page.old.bytes.ghost_name }
 {
     if mark == RUNNING {
-        return put_line(buffer, at, b"(unit", &[low, high]);
+        return page.line(b"(unit", &[low, high]);
     }
-    put_word(buffer, at, b"(shut)\n")
+    page.word(b"(shut)\n");
 }
 
-// Writes the unit lines of all units, and hands back the index after them.
-pub fn put_range_lines(
-    buffer: &mut [u8],
-    at: usize,
-    marks: &[u64],
-    lows: &[u64],
-    highs: &[u64],
-) -> usize
+// Writes the unit lines of all units.
+pub fn put_range_lines(page: &mut Page, marks: &[u64], lows: &[u64], highs: &[u64])
     requires highs_len { (length highs.now ≡ length lows.now) × (length marks.now ≡ length lows.now) }
-    requires room { Room buffer.old at (flatten (range_lines marks.now lows.now highs.now)) }
-    ensures { Wrote (flatten (range_lines marks.now lows.now highs.now)) buffer.old at buffer.new result }
+    requires room { Room page.old.bytes.now page.old.at (flatten (range_lines marks.now lows.now highs.now)) }
+    ensures wrote { Wrote (flatten (range_lines marks.now lows.now highs.now)) page.old.bytes.now page.old.at page.new.bytes.now page.new.at }
+    ensures same_reference { page.new.bytes.ghost_name ≡ page.old.bytes.ghost_name }
 {
-    let mut next = at;
-    let mut i: usize = 0;
-    while i < lows.len() {
-        next = put_range_line(buffer, next, marks[i], lows[i], highs[i]);
-        i += 1;
+    for (mark, (low, high)) in marks.iter().zip(lows.iter().zip(highs)) {
+        put_range_line(page, *mark, *low, *high);
     }
-    next
 }
 
-// Writes a limit, a number or the word any, and hands back the index after it.
+// Writes a limit, a number or the word any.
 #[tactic(auto, unfolding(form::specs::Form::print_limit))]
-fn put_limit(buffer: &mut [u8], at: usize, limit: Limit) -> usize
-    requires { Room buffer.old at (print_limit limit) }
-    ensures { Wrote (print_limit limit) buffer.old at buffer.new result }
+fn put_limit(page: &mut Page, limit: Limit)
+    requires { Room page.old.bytes.now page.old.at (print_limit limit) }
+    ensures wrote { Wrote (print_limit limit) page.old.bytes.now page.old.at page.new.bytes.now page.new.at }
+    ensures same_reference { page.new.bytes.ghost_name ≡ page.old.bytes.ghost_name }
 {
     match limit {
-        Limit::Any => put_word(buffer, at, b"any"),
-        Limit::AtMost(most) => put_number(buffer, at, most),
+        Limit::Any => page.word(b"any"),
+        Limit::AtMost(most) => page.number(most),
     }
 }
 
-// Writes what opens a limit and the limit, and hands back the index after them.
-fn put_limited(buffer: &mut [u8], at: usize, opening: &[u8], limit: Limit) -> usize
-    requires { Room buffer.old at (opening.now ++ print_limit limit) }
-    ensures { Wrote (opening.now ++ print_limit limit) buffer.old at buffer.new result }
+// Writes what opens a limit and the limit.
+fn put_limited(page: &mut Page, opening: &[u8], limit: Limit)
+    requires { Room page.old.bytes.now page.old.at (opening.now ++ print_limit limit) }
+    ensures wrote { Wrote (opening.now ++ print_limit limit) page.old.bytes.now page.old.at page.new.bytes.now page.new.at }
+    ensures same_reference { page.new.bytes.ghost_name ≡ page.old.bytes.ghost_name }
 {
-    let next = put_word(buffer, at, opening);
-    put_limit(buffer, next, limit)
+    page.word(opening);
+    put_limit(page, limit);
 }
 
-// Writes a pairs limit where it was there, and hands back the index after it.
+// Writes a pairs limit where it was there.
 #[tactic(auto, unfolding(form::specs::Form::print_pairs))]
-fn put_pairs(buffer: &mut [u8], at: usize, there: bool, limit: Limit) -> usize
-    requires { Room buffer.old at (print_pairs (pairs_written there limit)) }
-    ensures { Wrote (print_pairs (pairs_written there limit)) buffer.old at buffer.new result }
+fn put_pairs(page: &mut Page, there: bool, limit: Limit)
+    requires { Room page.old.bytes.now page.old.at (print_pairs (pairs_written there limit)) }
+    ensures wrote { Wrote (print_pairs (pairs_written there limit)) page.old.bytes.now page.old.at page.new.bytes.now page.new.at }
+    ensures same_reference { page.new.bytes.ghost_name ≡ page.old.bytes.ghost_name }
 {
     if there {
-        return put_limited(buffer, at, b") (pairs ", limit);
+        put_limited(page, b") (pairs ", limit);
     }
-    at
 }
 
-// Writes a group's line up to its members, and hands back the index after it.
-fn put_head(buffer: &mut [u8], at: usize, total: u64, limits: Limits, pairs_there: bool) -> usize
-    requires { Room buffer.old at (group_head (heading_of total limits pairs_there)) }
-    ensures { Wrote (group_head (heading_of total limits pairs_there)) buffer.old at buffer.new result }
+// Writes a group's line up to its members.
+fn put_head(page: &mut Page, total: u64, limits: Limits, pairs_there: bool)
+    requires { Room page.old.bytes.now page.old.at (group_head (heading_of total limits pairs_there)) }
+    ensures wrote { Wrote (group_head (heading_of total limits pairs_there)) page.old.bytes.now page.old.at page.new.bytes.now page.new.at }
+    ensures same_reference { page.new.bytes.ghost_name ≡ page.old.bytes.ghost_name }
 {
-    let deviation = limits.deviation;
-    let spread = limits.spread;
-    let pairs = limits.pairs;
-    let mut next = put_form(buffer, at, b"(group", &[total]);
-    next = put_limited(buffer, next, b" (dev ", deviation);
-    next = put_limited(buffer, next, b") (spread ", spread);
-    next = put_pairs(buffer, next, pairs_there, pairs);
-    put_word(buffer, next, b") (of")
+    page.form(b"(group", &[total]);
+    put_limited(page, b" (dev ", limits.deviation);
+    put_limited(page, b") (spread ", limits.spread);
+    put_pairs(page, pairs_there, limits.pairs);
+    page.word(b") (of");
 }
 
-// Writes the unit numbers of members, each after a space, and hands back the index after them.
-fn put_members(buffer: &mut [u8], at: usize, members: &[u64]) -> usize
+// Writes the unit numbers of members, each after a space.
+fn put_members(page: &mut Page, members: &[u64])
     requires named { Named most_units members.now }
-    requires room { Room buffer.old at (items (map suc members.now)) }
-    ensures { Wrote (items (map suc members.now)) buffer.old at buffer.new result }
+    requires room { Room page.old.bytes.now page.old.at (items (map suc members.now)) }
+    ensures wrote { Wrote (items (map suc members.now)) page.old.bytes.now page.old.at page.new.bytes.now page.new.at }
+    ensures same_reference { page.new.bytes.ghost_name ≡ page.old.bytes.ghost_name }
 {
-    let mut next = at;
-    let mut i: usize = 0;
-    while i < members.len() {
-        next = put_item(buffer, next, members[i] + 1);
-        i += 1;
+    for member in members {
+        page.item(*member + 1);
     }
-    next
 }
 
-// Writes the line of a group of a flat list, and hands back the index after it.
-fn put_member_line(buffer: &mut [u8], at: usize, flat: &[u64], group: Stored) -> usize
+// Writes the line of a group of a flat list.
+fn put_member_line(page: &mut Page, flat: &[u64], group: Stored)
     requires count_in_bounds { group.from + group.count ≤ length flat.now }
     requires named { Named most_units (group_in flat.now group).members }
-    requires room { Room buffer.old at (member_line (group_in flat.now group)) }
-    ensures { Wrote (member_line (group_in flat.now group)) buffer.old at buffer.new result }
+    requires room { Room page.old.bytes.now page.old.at (member_line (group_in flat.now group)) }
+    ensures wrote { Wrote (member_line (group_in flat.now group)) page.old.bytes.now page.old.at page.new.bytes.now page.new.at }
+    ensures same_reference { page.new.bytes.ghost_name ≡ page.old.bytes.ghost_name }
 {
-    let limits = group.limits;
-    let from = group.from;
-    let end = from + group.count;
-    let mut next = put_head(buffer, at, group.total, limits, group.pairs_there);
-    next = put_members(buffer, next, &flat[from..end]);
-    put_word(buffer, next, b"))\n")
+    let end = group.from + group.count;
+    put_head(page, group.total, group.limits, group.pairs_there);
+    put_members(page, &flat[group.from..end]);
+    page.word(b"))\n");
 }
 
-// Writes the lines of a flat list's groups, and hands back the index after them.
-pub fn put_member_lines(buffer: &mut [u8], at: usize, flat: &[u64], groups: u64) -> usize
+// Writes the lines of a flat list's groups.
+pub fn put_member_lines(page: &mut Page, flat: &[u64], groups: u64)
     requires holds { Holds groups flat.now }
     requires accepted_groups { AcceptedGroups most_units (groups_in groups flat.now) }
-    requires room { Room buffer.old at (flatten (map member_line (groups_in groups flat.now))) }
-    ensures { Wrote (flatten (map member_line (groups_in groups flat.now))) buffer.old at buffer.new result }
+    requires room { Room page.old.bytes.now page.old.at (flatten (map member_line (groups_in groups flat.now))) }
+    ensures wrote { Wrote (flatten (map member_line (groups_in groups flat.now))) page.old.bytes.now page.old.at page.new.bytes.now page.new.at }
+    ensures same_reference { page.new.bytes.ghost_name ≡ page.old.bytes.ghost_name }
 {
-    let mut next = at;
     let mut from: usize = 0;
-    let mut number: u64 = 0;
-    while number < groups {
+    for _ in 0..groups {
         let group = group_at(flat, from);
-        next = put_member_line(buffer, next, flat, group);
+        put_member_line(page, flat, group);
         from = group.next;
-        number += 1;
     }
-    next
 }

@@ -1,83 +1,94 @@
-// Writing a text into a buffer: words and numbers, one after another.
+// Writing a text on a page: words and numbers, one after another.
 #![tactic(auto)]
 
-ghost use Rattle.std.specs.Prelude.{◌+◌, ◌<◌, [], ◌∷◌};
+ghost use Rattle.std.specs.Prelude.{◌+◌, ◌<◌, ◌≡◌, [], ◌∷◌};
 ghost use Rattle.text.specs.Numbers.{print_number};
 ghost use Rattle.print.specs.Items.{item, items, form, printed_line};
 ghost use Rattle.print.specs.Inner.Written.{Room, Wrote};
 
-// Writes a byte and hands back the index after it.
-fn put_byte(buffer: &mut [u8], at: usize, byte: u8) -> usize
-    requires { Room buffer.old at (byte ∷ []) }
-    ensures { Wrote (byte ∷ []) buffer.old at buffer.new result }
-{
-    buffer[at] = byte;
-    at + 1
+// A page that is written on: its bytes, and how many of them are written.
+#[derive(Drop)]
+pub struct Page<'a> {
+    pub bytes: &'a mut [u8],
+    pub at: usize,
 }
 
-// Writes a word, given by its bytes, and hands back the index after it.
-pub fn put_word(buffer: &mut [u8], at: usize, word: &[u8]) -> usize
-    requires { Room buffer.old at word.now }
-    ensures { Wrote word.now buffer.old at buffer.new result }
-{
-    let mut next = at;
-    let mut i: usize = 0;
-    while i < word.len() {
-        next = put_byte(buffer, next, word[i]);
-        i += 1;
+// Each method ensures that the page keeps its reference, so that whoever lent the bytes knows what they are afterwards.
+impl<'a> Page<'a> {
+    // Writes a byte.
+    #[tactic(auto, unfolding(crate::specs::Inner::Written::written))]
+    fn byte(&mut self, byte: u8)
+        requires { Room self.old.bytes.now self.old.at (byte ∷ []) }
+        ensures wrote { Wrote (byte ∷ []) self.old.bytes.now self.old.at self.new.bytes.now self.new.at }
+        ensures same_reference { self.new.bytes.ghost_name ≡ self.old.bytes.ghost_name }
+    {
+        self.bytes[self.at] = byte;
+        self.at += 1;
     }
-    next
-}
 
-// Writes a number in base ten and hands back the index after it.
-pub fn put_number(buffer: &mut [u8], at: usize, v: u64) -> usize
-    requires { Room buffer.old at (print_number v) }
-    ensures { Wrote (print_number v) buffer.old at buffer.new result }
-{
-    if v < 10 {
-        return put_byte(buffer, at, (48 + v) as u8);
+    // Writes a word, given by its bytes.
+    #[tactic(auto, using(model::proofs::Laws::Writing::part_written), unfolding(crate::specs::Inner::Written::written))]
+    pub fn word(&mut self, word: &[u8])
+        requires { Room self.old.bytes.now self.old.at word.now }
+        ensures wrote { Wrote word.now self.old.bytes.now self.old.at self.new.bytes.now self.new.at }
+        ensures same_reference { self.new.bytes.ghost_name ≡ self.old.bytes.ghost_name }
+    {
+        let next = self.at + word.len();
+        self.bytes[self.at..next].copy_from_slice(word);
+        self.at = next;
     }
-    let next = put_number(buffer, at, v / 10);
-    put_byte(buffer, next, (48 + v % 10) as u8)
-}
 
-// Writes a space and a number, and hands back the index after them.
-pub fn put_item(buffer: &mut [u8], at: usize, v: u64) -> usize
-    requires { Room buffer.old at (item v) }
-    ensures { Wrote (item v) buffer.old at buffer.new result }
-{
-    let next = put_byte(buffer, at, b' ');
-    put_number(buffer, next, v)
-}
-
-// Writes numbers, each after a space, and hands back the index after them.
-fn put_items(buffer: &mut [u8], at: usize, vs: &[u64]) -> usize
-    requires { Room buffer.old at (items vs.now) }
-    ensures { Wrote (items vs.now) buffer.old at buffer.new result }
-{
-    let mut next = at;
-    let mut i: usize = 0;
-    while i < vs.len() {
-        next = put_item(buffer, next, vs[i]);
-        i += 1;
+    // Writes a number in base ten.
+    pub fn number(&mut self, v: u64)
+        requires { Room self.old.bytes.now self.old.at (print_number v) }
+        ensures wrote { Wrote (print_number v) self.old.bytes.now self.old.at self.new.bytes.now self.new.at }
+        ensures same_reference { self.new.bytes.ghost_name ≡ self.old.bytes.ghost_name }
+    {
+        if v < 10 {
+            return self.byte((48 + v) as u8);
+        }
+        self.number(v / 10);
+        self.byte((48 + v % 10) as u8);
     }
-    next
-}
 
-// Writes a word and numbers, each after a space, and hands back the index after them.
-pub fn put_form(buffer: &mut [u8], at: usize, word: &[u8], vs: &[u64]) -> usize
-    requires { Room buffer.old at (form word.now vs.now) }
-    ensures { Wrote (form word.now vs.now) buffer.old at buffer.new result }
-{
-    let next = put_word(buffer, at, word);
-    put_items(buffer, next, vs)
-}
+    // Writes a space and a number.
+    pub fn item(&mut self, v: u64)
+        requires { Room self.old.bytes.now self.old.at (item v) }
+        ensures wrote { Wrote (item v) self.old.bytes.now self.old.at self.new.bytes.now self.new.at }
+        ensures same_reference { self.new.bytes.ghost_name ≡ self.old.bytes.ghost_name }
+    {
+        self.byte(b' ');
+        self.number(v);
+    }
 
-// Writes a line of a word and numbers, and hands back the index after it.
-pub fn put_line(buffer: &mut [u8], at: usize, word: &[u8], vs: &[u64]) -> usize
-    requires { Room buffer.old at (printed_line word.now vs.now) }
-    ensures { Wrote (printed_line word.now vs.now) buffer.old at buffer.new result }
-{
-    let next = put_form(buffer, at, word, vs);
-    put_word(buffer, next, b")\n")
+    // Writes numbers, each after a space.
+    fn items(&mut self, vs: &[u64])
+        requires { Room self.old.bytes.now self.old.at (items vs.now) }
+        ensures wrote { Wrote (items vs.now) self.old.bytes.now self.old.at self.new.bytes.now self.new.at }
+        ensures same_reference { self.new.bytes.ghost_name ≡ self.old.bytes.ghost_name }
+    {
+        for v in vs {
+            self.item(*v);
+        }
+    }
+
+    // Writes a word and numbers, each after a space.
+    pub fn form(&mut self, word: &[u8], vs: &[u64])
+        requires { Room self.old.bytes.now self.old.at (form word.now vs.now) }
+        ensures wrote { Wrote (form word.now vs.now) self.old.bytes.now self.old.at self.new.bytes.now self.new.at }
+        ensures same_reference { self.new.bytes.ghost_name ≡ self.old.bytes.ghost_name }
+    {
+        self.word(word);
+        self.items(vs);
+    }
+
+    // Writes a line of a word and numbers.
+    pub fn line(&mut self, word: &[u8], vs: &[u64])
+        requires { Room self.old.bytes.now self.old.at (printed_line word.now vs.now) }
+        ensures wrote { Wrote (printed_line word.now vs.now) self.old.bytes.now self.old.at self.new.bytes.now self.new.at }
+        ensures same_reference { self.new.bytes.ghost_name ≡ self.old.bytes.ghost_name }
+    {
+        self.form(word, vs);
+        self.word(b")\n");
+    }
 }

@@ -22,31 +22,31 @@ parts : (h : Heading) {buffer : List ℕ} {at : ℕ} → Room buffer at (group_h
 unfolding group_head
 parts h room = begin _ refl room
 
-pub put_form-next-requires : goal.put_form-next-requires
-put_form-next-requires c = room_next (parts _ c.requires)
+pub form-requires : goal.form-requires
+form-requires c = room_next (parts _ c.requires)
 
-pub put_limited-next-requires : goal.put_limited-next-requires
-put_limited-next-requires c =
-    room_next (next (parts _ c.requires) c.put_form-next.ensures)
+pub put_limited-requires : goal.put_limited-requires
+put_limited-requires c =
+    room_next (next (parts _ c.requires) c.form.ensures.wrote)
 
-pub put_limited-next-requires-2 : goal.put_limited-next-requires-2
-put_limited-next-requires-2 c =
-    room_next (next (next (parts _ c.requires) c.put_form-next.ensures) c.put_limited-next.ensures)
+pub put_limited-requires-2 : goal.put_limited-requires-2
+put_limited-requires-2 c =
+    room_next (next (next (parts _ c.requires) c.form.ensures.wrote) c.put_limited.ensures.wrote)
 
-pub put_pairs-next-requires : goal.put_pairs-next-requires
-put_pairs-next-requires c =
-    let opened = next (parts _ c.requires) c.put_form-next.ensures in
-    room_next (next (next opened c.put_limited-next.ensures) c.put_limited-next-2.ensures)
+pub put_pairs-requires : goal.put_pairs-requires
+put_pairs-requires c =
+    let opened = next (parts _ c.requires) c.form.ensures.wrote in
+    room_next (next (next opened c.put_limited.ensures.wrote) c.put_limited-2.ensures.wrote)
 
-pub put_word-requires : goal.put_word-requires
-put_word-requires c =
-    let opened = next (parts _ c.requires) c.put_form-next.ensures in
-    let limited = next (next opened c.put_limited-next.ensures) c.put_limited-next-2.ensures in
-    room_next (next limited c.put_pairs-next.ensures)
+pub word-requires : goal.word-requires
+word-requires c =
+    let opened = next (parts _ c.requires) c.form.ensures.wrote in
+    let limited = next (next opened c.put_limited.ensures.wrote) c.put_limited-2.ensures.wrote in
+    room_next (next limited c.put_pairs.ensures.wrote)
 
-pub returns : goal.returns
+pub returns-clause-wrote : goal.returns-clause-wrote
 unfolding flatten
-returns c =
-    let opened = next (parts _ c.requires) c.put_form-next.ensures in
-    let limited = next (next opened c.put_limited-next.ensures) c.put_limited-next-2.ensures in
-    done refl (next (next limited c.put_pairs-next.ensures) c.put_word.ensures)
+returns-clause-wrote c =
+    let opened = next (parts _ c.requires) c.form.ensures.wrote in
+    let limited = next (next opened c.put_limited.ensures.wrote) c.put_limited-2.ensures.wrote in
+    done refl (next (next limited c.put_pairs.ensures.wrote) c.word.ensures.wrote)

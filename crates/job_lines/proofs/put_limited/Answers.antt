@@ -13,14 +13,14 @@ parts : (opening : List ℕ) (limit : Limit) {buffer : List ℕ} {at : ℕ} → 
 unfolding flatten
 parts opening limit room = begin _ (ap (λ (s : List ℕ). opening ++ s) (append-nil (print_limit limit))) room
 
-pub put_word-next-requires : goal.put_word-next-requires
-put_word-next-requires c = room_next (parts _ _ c.requires)
+pub word-requires : goal.word-requires
+word-requires c = room_next (parts _ _ c.requires)
 
 pub put_limit-requires : goal.put_limit-requires
 put_limit-requires c =
-    room_next (next (parts _ _ c.requires) c.put_word-next.ensures)
+    room_next (next (parts _ _ c.requires) c.word.ensures.wrote)
 
-pub returns : goal.returns
+pub returns-clause-wrote : goal.returns-clause-wrote
 unfolding flatten
-returns c =
-    done refl (next (next (parts _ _ c.requires) c.put_word-next.ensures) c.put_limit.ensures)
+returns-clause-wrote c =
+    done refl (next (next (parts _ _ c.requires) c.word.ensures.wrote) c.put_limit.ensures.wrote)

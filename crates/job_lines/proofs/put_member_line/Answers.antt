@@ -27,9 +27,9 @@ module _ (start : Start) where
   group = group_in start.args.flat.now start.args.group
 
   -- the pieces of the line, at the start
-  left : Rest (member_line group) start.args.buffer.now start.args.at
+  left : Rest (member_line group) start.args.page.now.bytes.now start.args.page.now.at
       (group_head (heading_of group.total group.limits group.pairs_there) ∷ items (map suc group.members) ∷ group_ending ∷ [])
-      start.args.buffer.now start.args.at
+      start.args.page.now.bytes.now start.args.page.now.at
   left = parts group start.requires.room
 
   -- the members lent are the group's
@@ -37,21 +37,21 @@ module _ (start : Start) where
       ≡ group.members
   members = part start.args.group.from start.args.group.count start.args.flat.now
 
-pub put_head-next-requires : goal.put_head-next-requires
-put_head-next-requires c = room_next (left (goal.at.put_head-next-requires c).Start)
+pub put_head-requires : goal.put_head-requires
+put_head-requires c = room_next (left (goal.at.put_head-requires c).Start)
 
-pub put_members-next-requires : goal.put_members-next-requires
-put_members-next-requires c =
-    let here = (goal.at.put_members-next-requires c).Start in
-    rw (members here) (record { named = c.requires.named; room = room_next (next (left here) c.put_head-next.ensures) })
+pub put_members-requires : goal.put_members-requires
+put_members-requires c =
+    let here = (goal.at.put_members-requires c).Start in
+    rw (members here) (record { named = c.requires.named; room = room_next (next (left here) c.put_head.ensures.wrote) })
 
-pub put_word-requires : goal.put_word-requires
-put_word-requires c =
-    room_next (next (next (left (goal.at.put_word-requires c).Start) c.put_head-next.ensures) (rw (members (goal.at.put_word-requires c).Start) at c.put_members-next.ensures))
+pub word-requires : goal.word-requires
+word-requires c =
+    room_next (next (next (left (goal.at.word-requires c).Start) c.put_head.ensures.wrote) (rw (members (goal.at.word-requires c).Start) at c.put_members.ensures.wrote))
 
-pub returns : goal.returns
+pub returns-clause-wrote : goal.returns-clause-wrote
 unfolding flatten
-returns c =
-    let opened = next (left (goal.at.returns c).Start) c.put_head-next.ensures in
-    let listed = next opened (rw (members (goal.at.returns c).Start) at c.put_members-next.ensures) in
-    done refl (next listed c.put_word.ensures)
+returns-clause-wrote c =
+    let opened = next (left (goal.at.returns-clause-wrote c).Start) c.put_head.ensures.wrote in
+    let listed = next opened (rw (members (goal.at.returns-clause-wrote c).Start) at c.put_members.ensures.wrote) in
+    done refl (next listed c.word.ensures.wrote)

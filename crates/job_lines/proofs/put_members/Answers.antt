@@ -1,11 +1,6 @@
 -- The numbers of the members from the i-th on are left to be written. Assumes nothing.
-use native.Mathlib.Numerals.{add-one}
-use native.Mathlib.Omega.{arith}
-use Prim.Native.Nat.{ℕ, suc, ◌+◌, ◌<◌}
-use mathlib.Core.List.{List, ◌∷◌, map, flatten}
-use mathlib.Core.Path.{refl}
-use lib.ListN.{length, get_or, drop, drop_of_length-le}
-use lib.Seq.{drop-cons}
+use Rattle.std.proofs.Common.{ℕ, suc, ◌+◌, ◌<◌, refl, ◌∙◌, List, ◌∷◌, length, get_or, drop, map, add-one, drop-cons, drop_of_length-le, arith}
+use mathlib.Core.List.{flatten}
 use Rattle.print.specs.Items.{item, items}
 use Rattle.print.specs.Laws.Written.{Rest, begin, room_next, next, done}
 use Rattle.job_lines.proofs.put_members.Goals as goal
@@ -16,22 +11,22 @@ one : (members : List ℕ) (i : ℕ) {bytes entry : List ℕ} {start : ℕ} {buf
     → Rest bytes entry start (item (get_or members i 0 + 1) ∷ map item (map suc (drop (i + 1) members))) buffer at
 one members i below r = rw (add-one i, add-one (get_or members i 0)) (rw (drop-cons members i 0 below) at r)
 
-pub loop-i-init : goal.loop-i-init
+pub loop-member-init : goal.loop-member-init
 unfolding items
-loop-i-init c = begin _ refl c.requires.room
+loop-member-init c = (begin _ refl c.requires.room, refl)
 
-pub overflow_add-members : goal.overflow_add-members
-overflow_add-members c = omega (arith, c.requires.named.below _ c.loop-i-test.true)
+pub overflow_add-member : goal.overflow_add-member
+overflow_add-member c = omega (arith, c.requires.named.below _ c.loop-member-test.true)
 
-pub put_item-next-requires : goal.put_item-next-requires
-put_item-next-requires c = room_next (one _ _ c.loop-i-test.true c.loop-i.invariant)
+pub item-requires : goal.item-requires
+item-requires c = room_next (one _ _ c.loop-member-test.true c.loop-member.invariant.0)
 
-pub loop-i-preserved : goal.loop-i-preserved
-loop-i-preserved c =
-    next (one _ _ c.loop-i-test.true c.loop-i.invariant) c.put_item-next.ensures
+pub loop-member-preserved : goal.loop-member-preserved
+loop-member-preserved c =
+    (next (one _ _ c.loop-member-test.true c.loop-member.invariant.0) c.item.ensures.wrote, c.item.ensures.same_reference ∙ c.loop-member.invariant.1)
 
-pub returns : goal.returns
+pub returns-clause-wrote : goal.returns-clause-wrote
 unfolding flatten
-returns c =
+returns-clause-wrote c =
     let members : List ℕ = c.args.members.now in
-    done (rw (drop_of_length-le members c.loop-i-test.false)) c.loop-i.invariant
+    done (rw (drop_of_length-le members c.loop-member-test.false)) c.loop-member.invariant.0

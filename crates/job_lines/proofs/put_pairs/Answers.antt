@@ -5,6 +5,6 @@ use Rattle.form.specs.Form.{print_pairs}
 use Rattle.print.specs.Laws.Written.{begin, done}
 use Rattle.job_lines.proofs.put_pairs.Goals as goal
 
-pub returns : goal.returns
+pub returns-else-there-clause-wrote : goal.returns-else-there-clause-wrote
 unfolding print_pairs flatten
-returns c = rw c.if-there.false (done refl (begin [] refl (rw c.if-there.false at c.requires)))
+returns-else-there-clause-wrote c = rw c.if-there.false (done refl (begin [] refl (rw c.if-there.false at c.requires)))

@@ -1,41 +1,42 @@
--- The lines of the units from the i-th on are left to be written. Assumes nothing.
-use native.Mathlib.Omega.{arith}
-use native.Mathlib.Numerals.{add-one}
-use Prim.Native.Nat.{ℕ, ◌+◌, ◌≤◌, ◌<◌}
-use mathlib.Core.List.{List, [], ◌∷◌, flatten}
-use mathlib.Core.Path.{◌≡◌, refl}
-use lib.ListN.{length, get_or, drop, drop_of_length-le}
-use lib.Seq.{drop-cons}
+-- The lines of the units that are left are to be written. Assumes nothing.
+use Rattle.std.proofs.Common.{ℕ, ◌≡◌, refl, ◌∙◌, List, [], ◌∷◌, ◌⊎◌, ⊎_elim, inl, inr, length, arith}
+use mathlib.Core.List.{flatten}
 use Rattle.print.specs.Laws.Written.{Rest, begin, room_next, next, done}
 use Rattle.job_lines.specs.Texts.{range_line, range_lines}
 use Rattle.job_lines.proofs.put_range_lines.Goals as goal
 
 -- the next unit's line, and those after it
-one : (marks lows highs : List ℕ) (i : ℕ) {bytes entry : List ℕ} {start : ℕ} {buffer : List ℕ} {at : ℕ}
-    → i < length marks → i < length lows → i < length highs
-    → Rest bytes entry start (range_lines (drop i marks) (drop i lows) (drop i highs)) buffer at
-    → Rest bytes entry start
-    (range_line (get_or marks i 0) (get_or lows i 0) (get_or highs i 0) ∷ range_lines (drop (i + 1) marks) (drop (i + 1) lows) (drop (i + 1) highs))
-    buffer at
+one : {marks lows highs bytes entry buffer : List ℕ} {mark low high start at : ℕ} (marks' lows' highs' : List ℕ)
+    → (marks ≡ mark ∷ marks') × ((lows ≡ low ∷ lows') × (highs ≡ high ∷ highs'))
+    → Rest bytes entry start (range_lines marks lows highs) buffer at
+    → Rest bytes entry start (range_line mark low high ∷ range_lines marks' lows' highs') buffer at
 unfolding range_lines
-one marks lows highs i o p q r = rw add-one (rw (drop-cons marks i 0 o, drop-cons lows i 0 p, drop-cons highs i 0 q) at r)
+one marks' lows' highs' split rest = rw (split.0, split.1.0, split.1.1) at rest
 
--- past the last unit no line is left
-no_more : (marks lows highs : List ℕ) (i : ℕ) → length marks ≡ length lows → length lows ≤ i
-    → flatten (range_lines (drop i marks) (drop i lows) (drop i highs)) ≡ []
+-- none at the end of a list
+none : (marks lows highs : List ℕ) → (length marks ≡ 0) ⊎ ((length lows ≡ 0) ⊎ (length highs ≡ 0)) → flatten (range_lines marks lows highs) ≡ []
 unfolding range_lines flatten
-no_more marks lows highs i many past = let end : length marks ≤ i = omega arith in rw (drop_of_length-le marks end)
+none [] lows highs ends = refl
+none (m ∷ marks) [] highs ends = refl
+none (m ∷ marks) (l ∷ lows) [] ends = refl
+none (m ∷ marks) (l ∷ lows) (h ∷ highs) ends = absurd (⊎_elim (λ e. omega (arith, e)) (⊎_elim (λ e. omega (arith, e)) (λ e. omega (arith, e))) ends)
 
-pub loop-i-init : goal.loop-i-init
-loop-i-init c = begin _ refl c.requires.room
+pub loop-mark-init : goal.loop-mark-init
+loop-mark-init c =
+    rw (c.into_iter-mark-iterator.ensures.into_iter_gives, c.zip-mark-items.ensures.first, c.iter.ensures.rest, c.zip-mark-items.ensures.second, c.zip.ensures.first, c.iter-2.ensures.rest, c.zip.ensures.second.0)
+    (begin _ refl c.requires.room, refl)
 
-pub put_range_line-next-requires : goal.put_range_line-next-requires
-put_range_line-next-requires c =
-    room_next (one _ _ _ _ (omega arith) c.loop-i-test.true (omega arith) c.loop-i.invariant)
+pub put_range_line-requires : goal.put_range_line-requires
+put_range_line-requires c = room_next (one _ _ _ c.in-Some.ensures.steps c.loop-mark.invariant.0)
 
-pub loop-i-preserved : goal.loop-i-preserved
-loop-i-preserved c =
-    next (one _ _ _ _ (omega arith) c.loop-i-test.true (omega arith) c.loop-i.invariant) c.put_range_line-next.ensures
+pub loop-mark-preserved : goal.loop-mark-preserved
+loop-mark-preserved c = (
+  next (one _ _ _ c.in-Some.ensures.steps c.loop-mark.invariant.0) c.put_range_line.ensures.wrote,
+  c.put_range_line.ensures.same_reference ∙ c.loop-mark.invariant.1,
+)
 
-pub returns : goal.returns
-returns c = done (no_more _ _ _ _ c.requires.highs_len.1 c.loop-i-test.false) c.loop-i.invariant
+pub returns-clause-wrote : goal.returns-clause-wrote
+returns-clause-wrote c =
+    done
+    (none _ _ _ (⊎_elim (λ e. inl e.1.0) (λ e. inr (⊎_elim (λ f. inl f.1.0) (λ f. inr f.1.0) e.1)) c.in-None.ensures.steps))
+    c.loop-mark.invariant.0

@@ -1,14 +1,12 @@
--- The lines of the units from the i-th on are left to be written. Assumes nothing.
-use Prim.Native.Nat.{◌-◌}
+-- The lines of the units that are left are to be written. Assumes nothing.
+use Rattle.std.proofs.Common.{◌≡◌}
 use mathlib.Core.List.{flatten}
-use lib.ListN.{length, drop}
 use Rattle.print.specs.Laws.Written.{Rest}
 use Rattle.job_lines.specs.Texts.{range_lines}
 use Rattle.job_lines.proofs.put_range_lines.Given as goal
 
-abbrev pub invariant-loop-i : goal.invariant-loop-i
-invariant-loop-i l =
-    Rest (flatten (range_lines l.marks l.lows l.highs)) l.initial.buffer l.at (range_lines (drop l.i l.marks) (drop l.i l.lows) (drop l.i l.highs)) l.buffer l.next
-
-abbrev pub decreases-loop-i : goal.decreases-loop-i
-decreases-loop-i l = length l.lows - l.i
+abbrev pub invariant-loop-mark : goal.invariant-loop-mark
+invariant-loop-mark l =
+    let left = l.mark-iterator in
+    let ranges = left.b in
+    Rest (flatten (range_lines l.marks l.lows l.highs)) l.initial.page.bytes.now l.initial.page.at (range_lines left.a.rest.now ranges.a.rest.now ranges.b.rest.now) l.page.bytes.now l.page.at × (l.page.bytes.ghost_name ≡ l.initial.page.bytes.ghost_name)

@@ -79,6 +79,22 @@ module _ {bytes entry : List ℕ} {start : ℕ} {buffer : List ℕ} {at : ℕ} w
       let none : length (flatten pieces) ≡ 0 = ap length e in
       record { moved = omega (arith, r.moves); holds = ap (λ (rest : List ℕ). written buffer at rest) (sym e) ∙ r.leaves }
 
+-- two pieces, one after the other
+module _ (xs ys : List ℕ) {buffer : List ℕ} {at : ℕ} (room : Room buffer at (flatten (xs ∷ ys ∷ []))) where
+  -- the first one fits
+  pub first_fits : Room buffer at xs
+  first_fits = room_next (begin (xs ∷ ys ∷ []) refl room)
+
+  -- once it is written, the second one fits
+  pub second_fits : {exit : List ℕ} {to : ℕ} → Wrote xs buffer at exit to → Room exit to ys
+  second_fits first = room_next (next (begin (xs ∷ ys ∷ []) refl room) first)
+
+  -- once that is written too, both are
+  pub both_written : {middle exit : List ℕ} {between to : ℕ} → Wrote xs buffer at middle between → Wrote ys middle between exit to
+      → Wrote (flatten (xs ∷ ys ∷ [])) buffer at exit to
+  unfolding flatten
+  both_written first second = done refl (next (next (begin (xs ∷ ys ∷ []) refl room) first) second)
+
 -- the buffer keeps its length
 pub keeps_length : {bytes entry : List ℕ} {at : ℕ} {exit : List ℕ} {next : ℕ} → Wrote bytes entry at exit next
     → length exit ≡ length entry
