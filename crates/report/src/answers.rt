@@ -9,17 +9,12 @@ ghost use Rattle.report.specs.Inner.Printed.{size_printed, buffer_printed};
 ghost use Rattle.report.specs.Reports.{report_of};
 ghost use Rattle.member_ranges.specs.Tables.{table_of};
 
-use crate::Reporting;
+use crate::Written;
 use crate::group_lines::put_group_lines;
 use crate::lines::{put_settled_line, put_unit_lines, refusal_line};
-use works::Settling;
-
-// How many units and groups a job has.
-#[derive(Clone, Copy)]
-pub struct Counts {
-    pub units: usize,
-    pub groups: u64,
-}
+use job::Counts;
+use print::Page;
+use works::Unsettled;
 
 // Writes the report of a settled table at the start of a buffer, and hands back its length.
 fn put_report(
@@ -36,60 +31,52 @@ fn put_report(
     ensures value { result ≡ length (report_of (marks_in (length lows.now) flat.now) (groups_in groups flat.now) (table_of lows.now highs.now) passes) }
     ensures buffer_after { buffer.new ≡ report_of (marks_in (length lows.now) flat.now) (groups_in groups flat.now) (table_of lows.now highs.now) passes ++ drop result buffer.old }
 {
-    let mut next = put_settled_line(buffer, 0, passes);
-    next = put_unit_lines(buffer, next, lows, highs);
-    put_group_lines(buffer, next, flat, groups, lows, highs)
+    let mut page = Page {
+        bytes: buffer,
+        at: 0,
+    };
+    put_settled_line(&mut page, passes);
+    put_unit_lines(&mut page, lows, highs);
+    put_group_lines(&mut page, flat, groups, lows, highs);
+    page.at
 }
 
 // Writes the report of a settling over the first units of a table, and answers; on a refusal the buffer keeps its bytes.
 pub fn put_answer(
     buffer: &mut [u8],
-    answer: Settling,
+    answer: Result<u64, Unsettled>,
     flat: &[u64],
     counts: Counts,
     lows: &[u64],
     highs: &[u64],
-) -> Reporting
+) -> Result<Written, Unsettled>
     requires answerable { Answerable (marks_in counts.units flat.now) (groups_in counts.groups flat.now) counts.units answer lows.now highs.now }
     requires holds_job { HoldsJob flat.now counts.groups counts.units }
     requires most_bytes_in_bounds { most_bytes ≤ length buffer.old }
     ensures { reported result lows.now highs.now buffer.new ≡ report_by (marks_in counts.units flat.now) (groups_in counts.groups flat.now) counts.units answer lows.now highs.now buffer.old }
 {
-    match answer {
-        Settling::Settled(passes) => {
-            let units = counts.units;
-            let length = put_report(
-                buffer,
-                passes,
-                flat,
-                counts.groups,
-                &lows[..units],
-                &highs[..units],
-            );
-            Reporting::Written { length, passes }
-        }
-        Settling::NoPlan {
-            number,
-            place,
-            passes,
-        } => Reporting::NoPlan {
-            number,
-            place,
-            passes,
-        },
-        Settling::Refused(refusal) => Reporting::Refused(refusal),
-    }
+    let passes = answer?;
+    let units = counts.units;
+    let length = put_report(
+        buffer,
+        passes,
+        flat,
+        counts.groups as u64,
+        &lows[..units],
+        &highs[..units],
+    );
+    Ok(Written { length, passes })
 }
 
 // Writes the line of a refusal at the start of a buffer that no report was written in, and hands back the length of what is printed.
-pub fn print_answer(answer: Reporting, buffer: &mut [u8]) -> usize
+pub fn print_answer(answer: Result<Written, Unsettled>, buffer: &mut [u8]) -> usize
     requires { 64 ≤ length buffer.old }
     ensures value { result ≡ size_printed answer }
     ensures buffer_after { buffer.new ≡ buffer_printed answer buffer.old }
 {
     match answer {
-        Reporting::Written { length, .. } => length,
-        Reporting::NoPlan { number, place, .. } => refusal_line(number, place, buffer),
-        Reporting::Refused(refusal) => refusal_line(refusal.number, refusal.place, buffer),
+        Ok(written) => written.length,
+        Err(Unsettled::NoPlan { number, place, .. }) => refusal_line(number, place, buffer),
+        Err(Unsettled::Refused(refusal)) => refusal_line(refusal.number, refusal.place, buffer),
     }
 }

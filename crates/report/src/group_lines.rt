@@ -14,9 +14,11 @@ ghost use Rattle.model.specs.Shares.{most_units};
 
 use crate::lines::put_levelled_line;
 use groups::{MARKS, Stored, group_at};
-use levelling::{Levelling, level_core};
+use levelling::{Levelled, level_core};
 use member_ranges::gather;
+use model::Refusal;
 use model::lists::room;
+use print::Page;
 
 // Writes the members' entries over the front of a list.
 fn gather_front(entries: &[u64], members: &[u64], out: &mut [u64])
@@ -36,7 +38,7 @@ fn level_members(
     lows: &[u64],
     highs: &[u64],
     plan: &mut [u64],
-) -> Levelling
+) -> Result<Levelled, Refusal>
     requires level_members { LevelMembers members.now marks.now lows.now highs.now }
     requires most_units_in_bounds { most_units ≤ length plan.old }
     ensures value { result ≡ levelled_to (gather lows.now members.now) (gather highs.now members.now) (gather marks.now members.now) total }
@@ -65,7 +67,7 @@ fn level_stored(
     lows: &[u64],
     highs: &[u64],
     plan: &mut [u64],
-) -> Levelling
+) -> Result<Levelled, Refusal>
     requires levelable { Levelable (marks_in (length lows.now) flat.now) (table_of lows.now highs.now) (group_in flat.now group) }
     requires highs_len { length highs.now ≡ length lows.now }
     requires holds_members { HoldsMembers flat.now group (length lows.now) }
@@ -87,30 +89,20 @@ fn level_stored(
     )
 }
 
-// Writes the lines of a flat list's groups, and hands back the index after them.
-pub fn put_group_lines(
-    buffer: &mut [u8],
-    at: usize,
-    flat: &[u64],
-    groups: u64,
-    lows: &[u64],
-    highs: &[u64],
-) -> usize
+// Writes the lines of a flat list's groups.
+pub fn put_group_lines(page: &mut Page, flat: &[u64], groups: u64, lows: &[u64], highs: &[u64])
     requires printable { Printable flat.now groups (table_of lows.now highs.now) }
-    requires room { Room buffer.old at (flatten (group_lines (marks_in (length lows.now) flat.now) 1 (table_of lows.now highs.now) (groups_in groups flat.now))) }
-    ensures { Wrote (flatten (group_lines (marks_in (length lows.now) flat.now) 1 (table_of lows.now highs.now) (groups_in groups flat.now))) buffer.old at buffer.new result }
+    requires room { Room page.old.bytes.now page.old.at (flatten (group_lines (marks_in (length lows.now) flat.now) 1 (table_of lows.now highs.now) (groups_in groups flat.now))) }
+    ensures wrote { Wrote (flatten (group_lines (marks_in (length lows.now) flat.now) 1 (table_of lows.now highs.now) (groups_in groups flat.now))) page.old.bytes.now page.old.at page.new.bytes.now page.new.at }
+    ensures same_reference { page.new.bytes.ghost_name ≡ page.old.bytes.ghost_name }
 {
     let mut plan = room();
-    let mut next = at;
     let mut from: usize = 0;
-    let mut number: u64 = 0;
-    while number < groups {
-        number += 1;
+    for written in 0..groups {
         let group = group_at(flat, from);
         let levelling = level_stored(flat, group, lows, highs, &mut plan);
         let count = group.count;
-        next = put_levelled_line(buffer, next, number, levelling, &plan[..count]);
+        put_levelled_line(page, written + 1, levelling, &plan[..count]);
         from = group.next;
     }
-    next
 }

@@ -8,11 +8,12 @@ ghost use Rattle.works.specs.Calls.{settle_job};
 ghost use Rattle.works.specs.Inner.Asked.{Prepared};
 
 use groups::MOST_FLAT;
-use job::{MOST_BYTES, Reading, scan_groups};
+use job::{Counts, MOST_BYTES, scan_groups};
 use model::Refusal;
-use report::Reporting;
-use report::answers::{Counts, put_answer};
+use report::Written;
+use report::answers::put_answer;
 use settling::calls::settle_job;
+use works::Unsettled;
 
 // Settles the groups of a flat list over the first units of a table, and reports the answer.
 fn report_job(
@@ -22,13 +23,20 @@ fn report_job(
     highs: &mut [u64],
     scratch: &mut [u64],
     buffer: &mut [u8],
-) -> Reporting
+) -> Result<Written, Unsettled>
     requires prepared { Prepared flat.now counts.groups counts.units }
     requires within_limits { WithinLimits flat.now counts.groups counts.units }
     requires most_bytes_in_bounds { most_bytes ≤ length buffer.old }
     ensures { reported result lows.new highs.new buffer.new ≡ report_settled (marks_in counts.units flat.now) (groups_in counts.groups flat.now) counts.units (settle_job (marks_in counts.units flat.now) (groups_in counts.groups flat.now) counts.units lows.old highs.old (length scratch.old)) buffer.old }
 {
-    let answer = settle_job(flat, counts.groups, counts.units, lows, highs, scratch);
+    let answer = settle_job(
+        flat,
+        counts.groups as u64,
+        counts.units,
+        lows,
+        highs,
+        scratch,
+    );
     put_answer(buffer, answer, flat, counts, lows, highs)
 }
 
@@ -40,22 +48,13 @@ fn report_by(
     scratch: &mut [u64],
     buffer: &mut [u8],
     flat: &mut [u64],
-) -> Reporting
+) -> Result<Written, Unsettled>
     requires most_flat_in_bounds { most_flat ≤ length flat.old }
     requires most_bytes_in_bounds { most_bytes ≤ length buffer.old }
     ensures { reported result lows.new highs.new buffer.new ≡ report_text text.now lows.old highs.old (length scratch.old) buffer.old }
 {
-    let reading = scan_groups(text, flat);
-    match reading {
-        Reading::Read { units, groups } => {
-            let counts = Counts {
-                units,
-                groups: groups as u64,
-            };
-            report_job(flat, counts, lows, highs, scratch, buffer)
-        }
-        Reading::Refused(refusal) => Reporting::Refused(refusal),
-    }
+    let counts = scan_groups(text, flat)?;
+    report_job(flat, counts, lows, highs, scratch, buffer)
 }
 
 // Settles a job text over a table and writes the report at the start of the buffer: answers its length and the passes, or a refusal.
@@ -65,14 +64,14 @@ pub fn report(
     highs: &mut [u64],
     scratch: &mut [u64],
     buffer: &mut [u8],
-) -> Reporting
+) -> Result<Written, Unsettled>
     ensures { reported result lows.new highs.new buffer.new ≡ report_text text.now lows.old highs.old (length scratch.old) buffer.old }
 {
     if buffer.len() < MOST_BYTES {
-        return Reporting::Refused(Refusal {
+        return Err(Unsettled::Refused(Refusal {
             number: 1,
             place: 0,
-        });
+        }));
     }
     let mut flat = [0u64; MOST_FLAT];
     report_by(text, lows, highs, scratch, buffer, &mut flat)

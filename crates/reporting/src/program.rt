@@ -4,7 +4,7 @@ ghost use Rattle.report.specs.Inner.Printed.{JobRoom};
 ghost use Rattle.report.specs.Program.{printed_of};
 
 use crate::calls::report;
-use job::{Reading, read};
+use job::{MOST_BYTES, read};
 use model::MOST_UNITS;
 use report::answers::print_answer;
 use report::lines::refusal_line;
@@ -22,21 +22,21 @@ fn print_by(
     ensures buffer_after { buffer.new ≡ printed_of text.now ++ drop result buffer.old }
 {
     match read(text, lows, highs) {
-        Reading::Read { .. } => {
+        Ok(_) => {
             let answer = report(text, lows, highs, scratch, buffer);
             print_answer(answer, buffer)
         }
-        Reading::Refused(refusal) => refusal_line(refusal.number, refusal.place, buffer),
+        Err(refusal) => refusal_line(refusal.number, refusal.place, buffer),
     }
 }
 
 // Writes what the program prints of a job text at the start of a buffer, and hands back its length.
-pub fn print_job(text: &[u8], buffer: &mut [u8; 65536]) -> usize
+pub fn print_job(text: &[u8], buffer: &mut [u8; MOST_BYTES]) -> usize
     ensures value { result ≡ length (printed_of text.now) }
     ensures buffer_after { buffer.new ≡ printed_of text.now ++ drop result buffer.old }
 {
     let mut lows = [0u64; MOST_UNITS];
     let mut highs = [0u64; MOST_UNITS];
-    let mut scratch = [0u64; 2048];
+    let mut scratch = [0u64; 8 * MOST_UNITS];
     print_by(text, &mut lows, &mut highs, &mut scratch, buffer)
 }

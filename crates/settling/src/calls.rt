@@ -6,9 +6,8 @@ ghost use Rattle.works.specs.Inner.Asked.{Prepared};
 
 use crate::passes::settle_core;
 use groups::{MARKS, flat_room};
-use job::{Reading, scan_groups};
-use list_checks::Check;
-use works::Settling;
+use job::scan_groups;
+use works::Unsettled;
 use works::checks::check_table;
 
 // Settles the groups of a flat list over the first units of a table, with the marks that the list holds.
@@ -19,40 +18,39 @@ pub fn settle_job(
     lows: &mut [u64],
     highs: &mut [u64],
     scratch: &mut [u64],
-) -> Settling
+) -> Result<u64, Unsettled>
     requires { Prepared flat.now groups units }
     ensures { settlement result lows.new highs.new ≡ settle_job (marks_in units flat.now) (groups_in groups flat.now) units lows.old highs.old (length scratch.old) }
 {
     let first = MARKS;
     let behind = first + units;
-    let check = check_table(&flat[first..behind], units, lows, highs, scratch.len());
-    match check {
-        Check::Failed(refusal) => Settling::Refused(refusal),
-        Check::Passed => settle_core(
-            flat,
-            groups,
-            &mut lows[..units],
-            &mut highs[..units],
-            scratch,
-        ),
-    }
+    check_table(&flat[first..behind], units, lows, highs, scratch.len())?;
+    settle_core(
+        flat,
+        groups,
+        &mut lows[..units],
+        &mut highs[..units],
+        scratch,
+    )
 }
 
 // Settles a job text over a table: takes the groups from the text, and opens with the ranges that the table holds.
-pub fn settle(text: &[u8], lows: &mut [u64], highs: &mut [u64], scratch: &mut [u64]) -> Settling
+pub fn settle(
+    text: &[u8],
+    lows: &mut [u64],
+    highs: &mut [u64],
+    scratch: &mut [u64],
+) -> Result<u64, Unsettled>
     ensures { settlement result lows.new highs.new ≡ settle_text text.now lows.old highs.old (length scratch.old) }
 {
     let mut flat = flat_room();
-    let reading = scan_groups(text, &mut flat);
-    match reading {
-        Reading::Read { units, groups } => settle_job(
-            &flat,
-            groups as u64,
-            units,
-            lows,
-            highs,
-            scratch,
-        ),
-        Reading::Refused(refusal) => Settling::Refused(refusal),
-    }
+    let counts = scan_groups(text, &mut flat)?;
+    settle_job(
+        &flat,
+        counts.groups as u64,
+        counts.units,
+        lows,
+        highs,
+        scratch,
+    )
 }

@@ -12,9 +12,10 @@ use groups::group_at;
 use member_ranges::tables::{restore, save, width_of};
 use model::Turn;
 use model::lists::room;
-use works::Settling;
+use works::Unsettled;
 
 // The number that a turn refuses with; 0 where it narrows.
+// The specification names let else for a turn's answer, which leaves the number to be asked for.
 fn number_of(turn: Turn) -> u64
     ensures { result ≡ refused_by turn }
 {
@@ -32,43 +33,44 @@ fn run_passes(
     highs: &mut [u64],
     member_lows: &mut [u64],
     member_highs: &mut [u64],
-) -> Settling
+) -> Result<u64, Unsettled>
     requires opening { Opening flat.now groups (table_of lows.old highs.old) }
     requires member_room { MemberRoom member_lows.old member_highs.old }
     ensures value { result ≡ answer_of (settle (running_in groups (length lows.old) flat.now) (table_of lows.old highs.old)) }
     ensures highs_after { table_of lows.new highs.new ≡ table_after (settle (running_in groups (length lows.old) flat.now) (table_of lows.old highs.old)) (table_of lows.new highs.new) }
 {
     let mut passes: u64 = 0;
-    let mut place: u64 = 0;
-    let mut number: u64 = 0;
-    'passes: loop {
+    let unsettled = 'passes: loop {
         passes += 1;
         let before = width_of(lows, highs);
         let mut at: usize = 0;
-        place = 0;
-        while place < groups {
+        for turns in 0..groups {
             let group = group_at(flat, at);
             let turn = take_turn(flat, group, lows, highs, member_lows, member_highs);
-            place += 1;
             let Turn::Narrowed = turn else {
-                number = number_of(turn);
-                break 'passes;
+                let number = number_of(turn);
+                break 'passes Unsettled::NoPlan {
+                    number,
+                    place: turns + 1,
+                    passes,
+                };
             };
             at = group.next;
         }
         if width_of(lows, highs) == before {
-            return Settling::Settled(passes);
+            return Ok(passes);
         }
-    }
-    Settling::NoPlan {
-        number,
-        place,
-        passes,
-    }
+    };
+    Err(unsettled)
 }
 
 // Settles the table in member lists of its own; where a group has no plan, the table is left as it then was.
-fn settle_in_place(flat: &[u64], groups: u64, lows: &mut [u64], highs: &mut [u64]) -> Settling
+fn settle_in_place(
+    flat: &[u64],
+    groups: u64,
+    lows: &mut [u64],
+    highs: &mut [u64],
+) -> Result<u64, Unsettled>
     requires { Opening flat.now groups (table_of lows.old highs.old) }
     ensures value { result ≡ answer_of (settle (running_in groups (length lows.old) flat.now) (table_of lows.old highs.old)) }
     ensures highs_after { table_of lows.new highs.new ≡ table_after (settle (running_in groups (length lows.old) flat.now) (table_of lows.old highs.old)) (table_of lows.new highs.new) }
@@ -92,7 +94,7 @@ pub fn settle_core(
     lows: &mut [u64],
     highs: &mut [u64],
     scratch: &mut [u64],
-) -> Settling
+) -> Result<u64, Unsettled>
     requires opening { Opening flat.now groups (table_of lows.old highs.old) }
     requires highs_in_bounds { length lows.old + length highs.old ≤ length scratch.old }
     ensures value { result ≡ answer_of (settle (running_in groups (length lows.old) flat.now) (table_of lows.old highs.old)) }
@@ -100,9 +102,8 @@ pub fn settle_core(
 {
     save(lows, highs, scratch);
     let answer = settle_in_place(flat, groups, lows, highs);
-    let Settling::Settled(_) = answer else {
+    if answer.is_err() {
         restore(scratch, lows, highs);
-        return answer;
-    };
+    }
     answer
 }

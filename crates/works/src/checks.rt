@@ -3,7 +3,7 @@ ghost use Rattle.std.specs.Prelude.{◌≡◌, ◌≤◌, length};
 ghost use Rattle.model.specs.Shares.{most_units};
 ghost use Rattle.works.specs.Calls.{has_room, check_table};
 
-use list_checks::{Check, check_lists};
+use list_checks::check_lists;
 use model::Refusal;
 
 // Whether lists of these lengths are long enough for the units.
@@ -11,13 +11,7 @@ fn has_room(units: usize, lows: usize, highs: usize, scratch: usize) -> bool
     requires { units ≤ most_units }
     ensures { result ≡ has_room units lows highs scratch }
 {
-    if lows < units {
-        return false;
-    }
-    if highs < units {
-        return false;
-    }
-    8 * units <= scratch
+    units <= lows && units <= highs && 8 * units <= scratch
 }
 
 // The first refusal ahead of settling that the table, over units with these marks, and the scratch cause.
@@ -27,12 +21,12 @@ pub fn check_table(
     lows: &[u64],
     highs: &[u64],
     scratch: usize,
-) -> Check
+) -> Result<(), Refusal>
     requires { units ≤ most_units }
     ensures { result ≡ check_table marks.now units lows.now highs.now scratch }
 {
     if !has_room(units, lows.len(), highs.len(), scratch) {
-        return Check::Failed(Refusal {
+        return Err(Refusal {
             number: 1,
             place: 0,
         });

@@ -1,24 +1,21 @@
 -- Writing a job and its table: the answer, and the buffer after it. Assumes nothing.
-use Rattle.std.specs.Prelude.{ℕ, ◌*◌, List, ◌++◌, leb, length, drop}
-use Rattle.list_checks.specs.declared.Check.{Check}
-use Rattle.list_checks.specs.declared.Check.TheVariants.{Passed, Failed}
+use Rattle.std.specs.Prelude.{ℕ, Result, Ok, Err, ◌*◌, List, ◌++◌, leb, length, drop}
 use Rattle.job.specs.Job.{Job, read_job, accepted, refused}
 use Rattle.model.specs.Groups.{Group}
 use Rattle.model.specs.Refusals.{refusal}
 use Rattle.model.specs.Shares.{pick}
+use Rattle.model.specs.declared.Refusal.{Refusal}
 use Rattle.works.specs.Called.{first_of}
 use Rattle.works.specs.Calls.{check_table}
 use Rattle.job_lines.specs.Texts.{job_with, job_text}
-use Rattle.writer.specs.declared.Writing.{Writing}
-use Rattle.writer.specs.declared.Writing.TheVariants.{Written, Refused}
 
 -- what a call answers, and the buffer after it
 pub record WrittenText : Type 0 where
-  pub answer : Writing
+  pub answer : Result ℕ Refusal
   pub buffer : List ℕ
 
 -- a call with this answer and this buffer
-abbrev pub written_text : Writing → List ℕ → WrittenText
+abbrev pub written_text : Result ℕ Refusal → List ℕ → WrittenText
 written_text answer buffer = record { answer = answer; buffer = buffer }
 
 -- 02: "then a buffer shorter than the text as 1, place 0. It hands back the length."; bytes past the text keep their values
@@ -26,13 +23,13 @@ unfoldable pub write_job : Job → List ℕ → WrittenText
 write_job job buffer =
     let text : List ℕ = job_text job in
     pick (leb (length text) (length buffer))
-    (written_text (Written (length text)) (text ++ drop (length text) buffer))
-    (written_text (Refused (refusal 1 0)) buffer)
+    (written_text (Ok (length text)) (text ++ drop (length text) buffer))
+    (written_text (Err (refusal 1 0)) buffer)
 
 -- what a check's refusal answers: the buffer holds what it held
-abbrev pub written_after : Check → List ℕ → WrittenText → WrittenText
-written_after (Failed refusal) buffer next = written_text (Refused refusal) buffer
-written_after Passed buffer next = next
+abbrev pub written_after : Result (Unit {0}) Refusal → List ℕ → WrittenText → WrittenText
+written_after (Err refusal) buffer next = written_text (Err refusal) buffer
+written_after (Ok _) buffer next = next
 
 -- writing groups over the first units of a table, which have these marks; the checks are settling's, with a scratch that is long enough
 unfoldable pub write_over : List ℕ → List Group → ℕ → List ℕ → List ℕ → List ℕ → WrittenText
@@ -44,5 +41,5 @@ unfoldable pub write_text : List ℕ → List ℕ → List ℕ → List ℕ → 
 write_text text lows highs buffer =
     elim (read_job text) [
       | accepted found ↦ write_over found.marks found.groups (length found.lows) lows highs buffer
-      | refused refusal ↦ written_text (Refused refusal) buffer
+      | refused refusal ↦ written_text (Err refusal) buffer
     ]

@@ -1,12 +1,12 @@
 -- What writing promises of a job text, a table and a buffer. Assumes nothing.
-use Rattle.std.specs.Prelude.{ℕ, ◌*◌, ◌≤◌, ◌<◌, List, ◌≡◌, length, take}
+use Rattle.std.specs.Prelude.{ℕ, Err, ◌*◌, ◌≤◌, ◌<◌, List, ◌≡◌, length, take}
 use Rattle.job.specs.Job.{Job}
 use Rattle.model.specs.Refusals.{refusal}
 use Rattle.model.specs.Shares.{most_units}
 use Rattle.model.specs.declared.Refusal.{Refusal}
 use Rattle.works.specs.Called.{Cleared, groups, marks, opening}
 use Rattle.works.specs.Calls.{settle_text}
-use Rattle.works.specs.declared.Settling.TheVariants as settling
+use Rattle.works.specs.declared.Unsettled.TheVariants.{Refused}
 use Rattle.writer.specs.Calls.{WrittenText}
 use Rattle.job_lines.specs.Texts.{job_with, job_text}
 
@@ -31,5 +31,5 @@ module _ (text lows highs buffer : List ℕ) where
 
   -- 02: "refuses as settling does up to 7 for the lent ranges, then a buffer shorter than the text as 1, place 0"
   pub data RefusesText : Refusal → Type 0 where
-    as_settling : {reason : Refusal} → (settle_text text lows highs most_scratch).answer ≡ settling.Refused reason → RefusesText reason
+    as_settling : {reason : Refusal} → (settle_text text lows highs most_scratch).answer ≡ Err (Refused reason) → RefusesText reason
     short : (cleared : Cleared text lows highs most_scratch) → length buffer < length (job_text (lent_job cleared)) → RefusesText (refusal 1 0)

@@ -1,37 +1,22 @@
 // What the program hand_on writes of a job text: the settled job as a job text, or one line for a refusal.
-ghost use Rattle.std.specs.Prelude.{◌++◌, ◌≡◌, ◌≤◌, length, drop};
+ghost use Rattle.std.specs.Prelude.{Ok, ◌++◌, ◌≡◌, ◌≤◌, length, drop};
 ghost use Rattle.form.specs.Form.{most_bytes};
 ghost use Rattle.report.specs.Inner.Printed.{JobRoom, Opened};
 ghost use Rattle.writer.specs.Calls.{written_text, write_text};
 ghost use Rattle.writer.specs.Handing.{handed_on};
 ghost use Rattle.writer.specs.Inner.Asked.{LetThrough, SettledFrom};
-ghost use Rattle.writer.specs.declared.Writing.TheVariants.{Written};
 
-use crate::Writing;
 use crate::calls::write;
-use job::{Reading, read};
+use job::{MOST_BYTES, read};
 use model::MOST_UNITS;
 use report::lines::refusal_line;
 use settling::calls::settle;
-use works::Settling;
-
-// Writes the job of a text with the ranges that settling left, at the start of a buffer that holds every job's text, and hands back its length.
-fn write_settled(text: &[u8], lows: &[u64], highs: &[u64], buffer: &mut [u8]) -> usize
-    requires let_through { LetThrough text.now lows.now highs.now }
-    requires most_bytes_in_bounds { most_bytes ≤ length buffer.old }
-    ensures { written_text (Written result) buffer.new ≡ write_text text.now lows.now highs.now buffer.old }
-{
-    match write(text, lows, highs, buffer) {
-        Writing::Written(length) => length,
-        // Does not come: what settling left passes the checks, and the text fits.
-        Writing::Refused(_) => 0,
-    }
-}
+use works::Unsettled;
 
 // Hands on what settling a job leaves: the job with the settled ranges, or the line of the refusal. Hands back the length of what is written.
 fn hand_answer(
     text: &[u8],
-    answer: Settling,
+    answer: Result<u64, Unsettled>,
     lows: &[u64],
     highs: &[u64],
     buffer: &mut [u8],
@@ -42,10 +27,11 @@ fn hand_answer(
     ensures buffer_after { buffer.new ≡ handed_on text.now ++ drop result buffer.old }
 {
     match answer {
-        Settling::Settled(_) => write_settled(text, lows, highs, buffer),
-        Settling::NoPlan { number, place, .. } => refusal_line(number, place, buffer),
+        // What settling left passes the checks, and the text fits.
+        Ok(_) => write(text, lows, highs, buffer).unwrap(),
+        Err(Unsettled::NoPlan { number, place, .. }) => refusal_line(number, place, buffer),
         // Does not come: the ranges of the unit lines pass the checks.
-        Settling::Refused(refusal) => refusal_line(refusal.number, refusal.place, buffer),
+        Err(Unsettled::Refused(refusal)) => refusal_line(refusal.number, refusal.place, buffer),
     }
 }
 
@@ -67,6 +53,7 @@ fn hand_settled(
 }
 
 // Fills a table from a job's unit lines, settles it and hands it on, by way of lists that hold every job.
+// print_by in reporting has another answer alone; one function for both would take a closure and its clauses.
 fn hand_on_by(
     text: &[u8],
     lows: &mut [u64],
@@ -79,18 +66,18 @@ fn hand_on_by(
     ensures buffer_after { buffer.new ≡ handed_on text.now ++ drop result buffer.old }
 {
     match read(text, lows, highs) {
-        Reading::Read { .. } => hand_settled(text, lows, highs, scratch, buffer),
-        Reading::Refused(refusal) => refusal_line(refusal.number, refusal.place, buffer),
+        Ok(_) => hand_settled(text, lows, highs, scratch, buffer),
+        Err(refusal) => refusal_line(refusal.number, refusal.place, buffer),
     }
 }
 
 // Writes what is handed on of a job text at the start of a buffer, and hands back its length.
-pub fn hand_on(text: &[u8], buffer: &mut [u8; 65536]) -> usize
+pub fn hand_on(text: &[u8], buffer: &mut [u8; MOST_BYTES]) -> usize
     ensures value { result ≡ length (handed_on text.now) }
     ensures buffer_after { buffer.new ≡ handed_on text.now ++ drop result buffer.old }
 {
     let mut lows = [0u64; MOST_UNITS];
     let mut highs = [0u64; MOST_UNITS];
-    let mut scratch = [0u64; 2048];
+    let mut scratch = [0u64; 8 * MOST_UNITS];
     hand_on_by(text, &mut lows, &mut highs, &mut scratch, buffer)
 }

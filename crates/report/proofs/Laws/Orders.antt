@@ -1,5 +1,5 @@
 -- Demand 3 for the report in every order of the groups, with its refusals and its passes. Assumes nothing.
-use Rattle.std.specs.Prelude.{ℕ, suc, ◌+◌, ◌≤◌, ◌↔◌, ◌≡◌, length, take}
+use Rattle.std.specs.Prelude.{ℕ, Ok, Err, suc, ◌+◌, ◌≤◌, ◌↔◌, ◌≡◌, length, take}
 use mathlib.Core.List.{List, Memᴰ}
 use Rattle.std.proofs.Math.Option.{some}
 use Rattle.std.proofs.Common.{sym, ap, ◌∙◌, arith, length-take-le, take_at}
@@ -18,44 +18,44 @@ use Rattle.works.proofs.Laws.Orders.{same_units, same_shut, same_groups}
 use Rattle.works.specs.Calls.{WantOfPlan}
 use Rattle.works.proofs.Laws.Repeated.{called_same_groups}
 use Rattle.member_ranges.specs.Tables.{Table, width}
-use Rattle.works.specs.declared.Settling.TheVariants as works
+use Rattle.works.specs.declared.Unsettled.TheVariants.{NoPlan}
 use Rattle.report.specs.Calls.{Reported, reported}
 use Rattle.report.proofs.Laws.Cut.{report_cut}
+use Rattle.report.specs.Inner.Printed.{size_printed}
 use Rattle.report.specs.Lines.{settled_line}
 use Rattle.report.specs.Places.{report_lines}
 use Rattle.report.proofs.Laws.Places.{line_numbered, group_line_lem}
 use Rattle.report.specs.Promises.{outcome, left}
 use Rattle.report.proofs.Laws.Promises.{reports, same_table_lem, written_settled, written_report, written_promised}
 use Rattle.report.specs.Reports.{line_of, report_of}
-use Rattle.report.specs.declared.Reporting.TheVariants.{Written, NoPlan}
 use Rattle.report.specs.Orders.{report_passes, report, SameLines, SameReports}
 
 module _ {text lows highs : List ℕ} {scratch : ℕ} (cleared : Cleared text lows highs scratch) (buffer : List ℕ)
     (long : most_bytes ≤ length buffer) where
   -- how the call ends: with a report, or for want of a plan, with table and buffer as they were
   data Reports : Type 0 where
-    written : (size passes : ℕ) → (outcome cleared buffer long).answer ≡ Written size passes → Reports
-    refused : (number place passes : ℕ) → (called cleared).answer ≡ works.NoPlan number place passes
-        → outcome cleared buffer long ≡ reported (NoPlan number place passes) lows highs buffer → Reports
+    written : (size passes : ℕ) → (outcome cleared buffer long).answer ≡ Ok (record { length = size; passes = passes }) → Reports
+    refused : (number place passes : ℕ) → (called cleared).answer ≡ Err (NoPlan number place passes)
+        → outcome cleared buffer long ≡ reported (Err (NoPlan number place passes)) lows highs buffer → Reports
 
   by_end : CallEnds cleared → Reports
   by_end (CallEnds.settled passes is said) =
-      let settles : (called cleared).answer ≡ works.Settled passes = says said in
+      let settles : (called cleared).answer ≡ Ok passes = says said in
       Reports.written (length (report_of (marks cleared) (groups cleared) (after cleared) passes)) passes
       (ap (λ (r : Reported). r.answer) (reports cleared buffer long) ∙ rw settles)
   by_end (CallEnds.refused number place passes is said) = Reports.refused number place passes (says said) (reports cleared buffer long ∙ rw said)
 
   -- a refusal for want of a plan says 11 or 12 and the place of a group, and table and buffer hold what they held
-  pub report_refusal : {number place passes : ℕ} → (outcome cleared buffer long).answer ≡ NoPlan number place passes
+  pub report_refusal : {number place passes : ℕ} → (outcome cleared buffer long).answer ≡ Err (NoPlan number place passes)
       → (WantOfPlan number × (1 ≤ place) × (place ≤ length (groups cleared)))
-      × (outcome cleared buffer long ≡ reported (NoPlan number place passes) lows highs buffer)
+      × (outcome cleared buffer long ≡ reported (Err (NoPlan number place passes)) lows highs buffer)
   report_refusal {number} {place} {passes} answers = refuses (by_end (ends cleared))
     where
       refuses : Reports → (WantOfPlan number × (1 ≤ place) × (place ≤ length (groups cleared)))
-          × (outcome cleared buffer long ≡ reported (NoPlan number place passes) lows highs buffer)
+          × (outcome cleared buffer long ≡ reported (Err (NoPlan number place passes)) lows highs buffer)
       refuses (Reports.written size count is) = absurd (let z : ◌≡◌ {A = ℕ} 0 1 = cc in omega arith)
       refuses (Reports.refused other there count none is) =
-          let same : NoPlan other there count ≡ NoPlan number place passes = sym (ap (λ (r : Reported). r.answer) is) ∙ answers in
+          let same : Err (NoPlan other there count) ≡ Err (NoPlan number place passes) = sym (ap (λ (r : Reported). r.answer) is) ∙ answers in
           let at_number : other ≡ number = cc in
           let at_place : there ≡ place = cc in
           let at_passes : count ≡ passes = cc in
@@ -69,15 +69,15 @@ module _ {text lows highs : List ℕ} {scratch : ℕ} (cleared : Cleared text lo
       bound (Reports.written size passes is) = rw is (rw (written_settled cleared buffer long is) at (called_bound cleared))
       bound (Reports.refused number place passes none is) = rw is (rw none at (called_bound cleared))
 
-  module _ {size passes : ℕ} (answers : (outcome cleared buffer long).answer ≡ Written size passes) where
+  module _ {size passes : ℕ} (answers : (outcome cleared buffer long).answer ≡ Ok (record { length = size; passes = passes })) where
     -- the answer is the length of the report of the table that the call leaves
     written_size : length (report_of (marks cleared) (groups cleared) (left cleared buffer long) passes) ≡ size
     written_size =
         let settles = written_settled cleared buffer long answers in
         let (lows_are, highs_are) = same_table_lem cleared buffer long in
-        let same : Written size passes ≡ Written (length (report_of (marks cleared) (groups cleared) (after cleared) passes)) passes =
+        let same : Ok (record { length = size; passes = passes }) ≡ Ok (record { length = length (report_of (marks cleared) (groups cleared) (after cleared) passes); passes = passes }) =
         sym answers ∙ ap (λ (r : Reported). r.answer) (reports cleared buffer long) ∙ rw settles in
-        let counted : length (report_of (marks cleared) (groups cleared) (after cleared) passes) ≡ size = cc in
+        let counted : length (report_of (marks cleared) (groups cleared) (after cleared) passes) ≡ size = ap size_printed (sym same) in
         rw (lows_are, highs_are) counted
 
     -- so these bytes are that report
@@ -129,8 +129,8 @@ module _ {text other lows highs : List ℕ} {scratch room : ℕ} (first : Cleare
     same_left = rw (same_lows, same_highs, as_many)
 
     -- so the same lines
-    same_lines : {size passes more others : ℕ} (answers : (outcome first buffer long).answer ≡ Written size passes)
-        (replies : (outcome second space wide).answer ≡ Written more others)
+    same_lines : {size passes more others : ℕ} (answers : (outcome first buffer long).answer ≡ Ok (record { length = size; passes = passes }))
+        (replies : (outcome second space wide).answer ≡ Ok (record { length = more; passes = others }))
         → SameLines (count first) (groups first) (groups second) (report first buffer long answers) (report second space wide replies)
     same_lines answers replies group j k stands too =
         let (past, is) = line_numbered (marks first) (left first buffer long) group in (

@@ -1,16 +1,14 @@
 -- Reading a job text and reporting it gives what the program prints. Assumes nothing.
-use Rattle.std.specs.Prelude.{ℕ, ◌*◌, ◌≤◌, List, ◌++◌, ◌≡◌, refl, length, take, drop}
+use Rattle.std.specs.Prelude.{ℕ, Result, Ok, Err, ◌*◌, ◌≤◌, List, ◌++◌, ◌≡◌, refl, length, take, drop}
 use Rattle.std.proofs.Common.{sym, ◌∙◌, arith, length-append, take_at}
 use Rattle.std.proofs.Math.Path.{ap}
-use Rattle.list_checks.specs.declared.Check.TheVariants.{Passed}
 use Rattle.job.specs.Job.{JobOrRefusal, accepted, refused, read_job}
 use Rattle.form.specs.Form.{most_bytes}
 use Rattle.job.specs.Reading.{read_table, ReadInto}
 use Rattle.job.proofs.Laws.Reading.{accepted_by, refused_by_lem, table_fits, table_refused, table_accepted}
 use Rattle.job.specs.Sound.{SoundJob}
 use Rattle.job.proofs.Laws.Sound.{accepted_sound}
-use Rattle.job.specs.declared.Reading.{Reading}
-use Rattle.job.specs.declared.Reading.TheVariants as reading
+use Rattle.job.specs.declared.Counts.{Counts}
 use Rattle.model.proofs.Laws.Lists.{ranges_length}
 use Rattle.model.specs.declared.Refusal.{Refusal}
 use Rattle.works.specs.Calls.{Settlement, check_table}
@@ -20,14 +18,14 @@ use Rattle.works.proofs.Laws.Checked.{Roomy, ranges_pass}
 use Rattle.works.specs.Resting.{running_groups}
 use Rattle.works.specs.Settling.{settle}
 use Rattle.member_ranges.specs.Tables.{Table, table_of}
-use Rattle.works.specs.declared.Settling.{Settling}
+use Rattle.works.specs.declared.Unsettled.{Unsettled}
 use Rattle.report.specs.Calls.{Reported, reported, report_by, report_text}
 use Rattle.report.specs.Lines.{refusal_line}
 use Rattle.report.specs.Program.{printed_read, printed_of}
 use Rattle.report.proofs.Laws.Promises.{reports}
 use Rattle.report.specs.Reports.{report_of, printed}
-use Rattle.report.specs.declared.Reporting.{Reporting}
-use Rattle.report.specs.declared.Reporting.TheVariants.{Written, NoPlan}
+use Rattle.report.specs.declared.Written.{Written}
+use Rattle.works.specs.declared.Unsettled.TheVariants.{NoPlan}
 use Rattle.report.specs.Inner.Printed.{Opened, size_printed, buffer_printed}
 use Rattle.model.specs.Shares.{most_units}
 
@@ -47,21 +45,21 @@ table_holds text a b p q = by_outcome (read_job text) refl
     by_outcome (refused refusal) e = table_refused text a b refusal e ∙ sym e
 
 -- what reading a text into a table answers and leaves
-module _ {text lows₀ highs₀ lows highs : List ℕ} {answer : Reading} (filled : ReadInto text lows₀ highs₀ lows highs answer) where
+module _ {text lows₀ highs₀ lows highs : List ℕ} {answer : Result Counts Refusal} (filled : ReadInto text lows₀ highs₀ lows highs answer) where
   -- a text is refused as the answer says, where the table has room for every job
-  pub read_refused : most_units ≤ length lows₀ → most_units ≤ length highs₀ → {refusal : Refusal} → answer ≡ reading.Refused refusal
+  pub read_refused : most_units ≤ length lows₀ → most_units ≤ length highs₀ → {refusal : Refusal} → answer ≡ Err refusal
       → read_job text ≡ refused refusal
   read_refused for_lows for_highs {refusal} refuses =
       sym (table_holds text (length lows₀) (length highs₀) for_lows for_highs) ∙ refused_by_lem _ refusal (sym refuses ∙ filled.answer)
 
   -- and the refusal's line is printed
-  pub refused_prints : most_units ≤ length lows₀ → most_units ≤ length highs₀ → {refusal : Refusal} → answer ≡ reading.Refused refusal
+  pub refused_prints : most_units ≤ length lows₀ → most_units ≤ length highs₀ → {refusal : Refusal} → answer ≡ Err refusal
       → printed_of text ≡ refusal_line refusal.number refusal.place
   unfolding printed_of printed_read
   refused_prints for_lows for_highs {refusal} refuses = ap printed_read (read_refused for_lows for_highs refuses)
 
   -- the table of a text that is read opens its settling
-  pub filled_opens : {units listed : ℕ} → answer ≡ reading.Read units listed → (scratch : ℕ) → 8 * units ≤ scratch
+  pub filled_opens : {units listed : ℕ} → answer ≡ Ok (record { units = units; groups = listed }) → (scratch : ℕ) → 8 * units ≤ scratch
       → Opened text lows highs scratch
   filled_opens {units} {listed} reads scratch for_scratch =
       let (found, accepts, counts, lists) = accepted_by _ units listed (sym reads ∙ filled.answer) in
@@ -78,7 +76,7 @@ module _ {text lows₀ highs₀ lows highs : List ℕ} {answer : Reading} (fille
         for_highs = rw highs_are (omega (arith, length-append found.highs (drop n highs₀)));
         for_scratch = omega (arith, counts);
       } in
-      let passes : check_table found.marks n lows highs scratch ≡ Passed =
+      let passes : check_table found.marks n lows highs scratch ≡ Ok tt =
       ranges_pass found.marks n lows highs scratch sound.some_unit sound.built.few_units room (rw (front_lows, front_highs) sound.built.ranges)
       (rw (front_lows, front_highs) sound.built.marked) in
       record {
@@ -87,7 +85,7 @@ module _ {text lows₀ highs₀ lows highs : List ℕ} {answer : Reading} (fille
       }
 
   -- also with a scratch for every job
-  pub read_opens : {units listed : ℕ} → answer ≡ reading.Read units listed → (scratch : ℕ) → 8 * most_units ≤ scratch
+  pub read_opens : {units listed : ℕ} → answer ≡ Ok (record { units = units; groups = listed }) → (scratch : ℕ) → 8 * most_units ≤ scratch
       → Opened text lows highs scratch
   read_opens {units} {listed} reads scratch for_scratch =
       let (found, accepts, counts, lists) = accepted_by _ units listed (sym reads ∙ filled.answer) in
@@ -114,13 +112,13 @@ module _ {text lows highs : List ℕ} {scratch : ℕ} (opened : Opened text lows
   -- the outcome with these bytes written at the start of the buffer
   abbrev writing : ℕ → List ℕ → List ℕ → List ℕ → Reported
   writing passes next_lows next_highs bytes =
-      reported (Written (length bytes) passes) next_lows next_highs (bytes ++ drop (length bytes) buffer)
+      reported (Ok (record { length = length bytes; passes = passes })) next_lows next_highs (bytes ++ drop (length bytes) buffer)
 
   -- how it ends: with the report written, or for want of a plan
   data Prints : Type 0 where
     written : (passes : ℕ) (next_lows next_highs : List ℕ) → outcome ≡ writing passes next_lows next_highs (printed_of text) → Prints
     none : (number place passes : ℕ) → printed_of text ≡ refusal_line number place
-        → outcome ≡ reported (NoPlan number place passes) lows highs buffer → Prints
+        → outcome ≡ reported (Err (NoPlan number place passes)) lows highs buffer → Prints
 
   by_end : CallEnds cleared → Prints
   unfolding printed
@@ -129,7 +127,7 @@ module _ {text lows highs : List ℕ} {scratch : ℕ} (opened : Opened text lows
       printed_opening ∙ ap (printed (marks cleared) (groups cleared)) settles in
       Prints.written passes (called cleared).lows (called cleared).highs
       (reports cleared buffer long
-      ∙ ap (λ (answer : Settling). report_by (marks cleared) (groups cleared) (count cleared) answer (called cleared).lows (called cleared).highs buffer) (says said)
+      ∙ ap (λ (answer : Result ℕ Unsettled). report_by (marks cleared) (groups cleared) (count cleared) answer (called cleared).lows (called cleared).highs buffer) (says said)
       ∙ ap (writing passes (called cleared).lows (called cleared).highs) (sym report_is))
   by_end (CallEnds.refused number place passes settles said) =
       Prints.none number place passes
@@ -137,7 +135,7 @@ module _ {text lows highs : List ℕ} {scratch : ℕ} (opened : Opened text lows
       (reports cleared buffer long
       ∙ ap (λ (s : Settlement). report_by (marks cleared) (groups cleared) (count cleared) s.answer s.lows s.highs buffer) said)
 
-  module _ {answer : Reporting} {next_lows next_highs exit : List ℕ} (is : reported answer next_lows next_highs exit ≡ outcome) where
+  module _ {answer : Result Written Unsettled} {next_lows next_highs exit : List ℕ} (is : reported answer next_lows next_highs exit ≡ outcome) where
     answers : {other : Reported} → outcome ≡ other → answer ≡ other.answer
     answers e = ap (λ (r : Reported). r.answer) (is ∙ e)
 

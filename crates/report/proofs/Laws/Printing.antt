@@ -1,8 +1,9 @@
 -- Printing the lines of a flat list's groups, one after another. Assumes nothing.
+use Rattle.model.specs.declared.Refusal.{Refusal}
 use Prim.Native.Nat.{ℕ, suc, ◌+◌, ◌≤◌, ◌<◌}
 use mathlib.Core.List.Memᴰ
 use mathlib.Core.List.{List, [], ◌∷◌, flatten}
-use Rattle.std.specs.Prelude.{◌≡◌, refl, take, drop}
+use Rattle.std.specs.Prelude.{Result, Ok, ◌≡◌, refl, take, drop}
 use Rattle.std.proofs.Common.{sym, ◌∙◌, add-one, arith, length-drop, take_at, length-take-le}
 use Rattle.std.proofs.Math.Path.{subst}
 use borrow.Author.Tests.{le-leb}
@@ -10,8 +11,7 @@ use Rattle.std.proofs.Math.ListN.{length}
 use Rattle.model.proofs.Laws.Sound.{levelled_length}
 use Rattle.levelling.specs.Levelling.{levelled_to, plan_after}
 use Rattle.model.specs.Shares.{most_units}
-use Rattle.levelling.specs.declared.Levelling.{Levelling}
-use Rattle.levelling.specs.declared.Levelling.TheVariants.{Levelled}
+use Rattle.levelling.specs.declared.Levelled.{Levelled}
 use Rattle.groups.specs.Inner.Flat.{marks_from, marks_in, stored_at, group_in, groups_in}
 use Rattle.groups.specs.Laws.Walk.{Walk, Next, walk_start, walk_end, walk_next}
 use Rattle.groups.specs.declared.Stored.{Stored}
@@ -38,7 +38,7 @@ module _ {marks : List ℕ} {table : Table} {group : Group} (levelable : Levelab
   count_few = omega (arith, gather_length table.lows group.members, levelable.shares.sound.few)
 
   -- levelling it answers with the level, the figures and the levelled shares
-  pub levelled_in : {answer : Levelling} (plan : List ℕ) {exit : List ℕ} → answer ≡ levelled_to (lows_of table group) (highs_of table group) (marks_of marks group) group.total
+  pub levelled_in : {answer : Result Levelled Refusal} (plan : List ℕ) {exit : List ℕ} → answer ≡ levelled_to (lows_of table group) (highs_of table group) (marks_of marks group) group.total
       → exit ≡ plan_after answer (levelled (lows_of table group) (highs_of table group) group.total) plan
       → LevelledIn marks table group answer exit
   unfolding levelled_to
@@ -46,13 +46,13 @@ module _ {marks : List ℕ} {table : Table} {group : Group} (levelable : Levelab
       let lows : List ℕ = lows_of table group in
       let highs : List ℕ = highs_of table group in
       let all : List ℕ = levelled lows highs group.total in
-      let is : answer ≡ Levelled (record { copies = level lows highs group.total }) (marked_figures (marks_of marks group) group.total all) =
+      let is : answer ≡ Ok (record { level = record { copies = level lows highs group.total }; figures = marked_figures (marks_of marks group) group.total all }) =
       answers ∙ rw (le-leb _ _ levelable.shares.low, le-leb _ _ levelable.shares.high) in
       let as_many : length all ≡ size group = levelled_length levelable.shares.sound group.total ∙ gather_length table.lows group.members in
       record { answers = is; holds = rw (leaves, is) (take_at all (drop (length all) plan) (size group) as_many) }
 
 -- its line is the one defined
-pub levelled_line_lem : {marks : List ℕ} {table : Table} {group : Group} {count : ℕ} {answer : Levelling} {plan : List ℕ} (number : ℕ) → size group ≡ count
+pub levelled_line_lem : {marks : List ℕ} {table : Table} {group : Group} {count : ℕ} {answer : Result Levelled Refusal} {plan : List ℕ} (number : ℕ) → size group ≡ count
     → LevelledIn marks table group answer plan → line_of_levelling number answer (take count plan) ≡ line_of marks number table group
 unfolding levelled_line
 levelled_line_lem number counted levelled = rw (← counted, levelled.answers, levelled.holds)

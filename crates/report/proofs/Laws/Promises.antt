@@ -1,6 +1,6 @@
 -- What a report promises, for every text that the reader accepts and every opening table: the laws of settling for the table
 -- that it leaves, and the shares on its group lines. Assumes nothing.
-use Rattle.std.specs.Prelude.{ℕ, ◌≤◌, List, ◌++◌, ◌↔◌, ◌≡◌, refl, leb, length, take, drop, Bool, true, false}
+use Rattle.std.specs.Prelude.{ℕ, Result, Ok, Err, ◌≤◌, List, ◌++◌, ◌↔◌, ◌≡◌, refl, leb, length, take, drop, Bool, true, false}
 use Rattle.std.proofs.Common.{sym, ap, ◌∙◌, arith, le-leb, length-append}
 use Rattle.job.specs.Job.{read_job}
 use Rattle.form.specs.Form.{most_bytes}
@@ -12,12 +12,13 @@ use Rattle.works.specs.Called.{Cleared, groups, marks, count, opening, called, a
 use Rattle.works.proofs.Laws.Called.{opening_shut, called_settled, called_inside, called_consistent, called_greatest, called_untouched, called_refused}
 use Rattle.works.proofs.Laws.Repeated.{called_again}
 use Rattle.member_ranges.specs.Tables.{table_of}
-use Rattle.works.specs.declared.Settling.{Settling}
-use Rattle.works.specs.declared.Settling.TheVariants as works
+use Rattle.works.specs.declared.Unsettled.{Unsettled}
 use Rattle.report.specs.Calls.{Reported, reported, report_by, report_settled, report_text, job_of}
+use Rattle.report.specs.Inner.Printed.{size_printed}
+use Rattle.report.specs.Orders.{report_passes}
 use Rattle.report.proofs.Laws.Evenness.{settled_lines}
 use Rattle.report.specs.Reports.{report_of}
-use Rattle.report.specs.declared.Reporting.TheVariants.{Written, NoPlan, Refused}
+use Rattle.works.specs.declared.Unsettled.TheVariants.{NoPlan, Refused}
 use Rattle.report.specs.Promises.{Promised, outcome, left}
 use Rattle.model.specs.Refusals.{refusal}
 
@@ -27,56 +28,55 @@ says is = ap (λ (r : Reported). r.answer) is
 
 module _ (marks : List ℕ) (groups : List Group) (units : ℕ) (lows highs buffer : List ℕ) where
   -- a written report lies in the buffer
-  written_in : (answer : Settling) (exit : Reported) {count passes : ℕ} → exit.answer ≡ Written count passes
+  written_in : (answer : Result ℕ Unsettled) (exit : Reported) {count passes : ℕ} → exit.answer ≡ Ok (record { length = count; passes = passes })
       → exit ≡ report_by marks groups units answer lows highs buffer → count ≤ length exit.buffer
-  written_in (works.Settled more) exit {count} {passes} answers is =
+  written_in (Ok more) exit {count} {passes} answers is =
       let report : List ℕ = report_of marks groups (table_of (take units lows) (take units highs)) more in
-      let same : Written count passes ≡ Written (length report) more = sym answers ∙ says is in
-      let counted : count ≡ length report = cc in
+      let counted : count ≡ length report = ap size_printed (sym answers ∙ says is) in
       rw (is, counted) (omega (arith, length-append report (drop (length report) buffer)))
-  written_in (works.NoPlan number place passes) exit answers is =
+  written_in (Err (NoPlan number place passes)) exit answers is =
       absurd (let e = says is in let z : ◌≡◌ {A = ℕ} 0 1 = cc in omega arith)
-  written_in (works.Refused refusal) exit answers is = absurd (let e = says is in let z : ◌≡◌ {A = ℕ} 0 1 = cc in omega arith)
+  written_in (Err (Refused refusal)) exit answers is = absurd (let e = says is in let z : ◌≡◌ {A = ℕ} 0 1 = cc in omega arith)
 
   -- only a settling is reported, with its passes
-  written_by : (answer : Settling) {count passes : ℕ} → (report_by marks groups units answer lows highs buffer).answer ≡ Written count passes
-      → answer ≡ works.Settled passes
-  written_by (works.Settled more) {count} {passes} answers = let counted : more ≡ passes = cc in rw counted
-  written_by (works.NoPlan number place passes) answers = absurd (let z : ◌≡◌ {A = ℕ} 0 1 = cc in omega arith)
-  written_by (works.Refused refusal) answers = absurd (let z : ◌≡◌ {A = ℕ} 0 1 = cc in omega arith)
+  written_by : (answer : Result ℕ Unsettled) {count passes : ℕ} → (report_by marks groups units answer lows highs buffer).answer ≡ Ok (record { length = count; passes = passes })
+      → answer ≡ Ok passes
+  written_by (Ok more) {count} {passes} answers = let counted : more ≡ passes = ap report_passes answers in rw counted
+  written_by (Err (NoPlan number place passes)) answers = absurd (let z : ◌≡◌ {A = ℕ} 0 1 = cc in omega arith)
+  written_by (Err (Refused refusal)) answers = absurd (let z : ◌≡◌ {A = ℕ} 0 1 = cc in omega arith)
 
   -- a refusal for want of a plan is the settling's
-  none_by : (answer : Settling) (number place passes : ℕ)
-      → ((report_by marks groups units answer lows highs buffer).answer ≡ NoPlan number place passes) ↔ (answer ≡ works.NoPlan number place passes)
-  none_by (works.Settled more) number place passes =
+  none_by : (answer : Result ℕ Unsettled) (number place passes : ℕ)
+      → ((report_by marks groups units answer lows highs buffer).answer ≡ Err (NoPlan number place passes)) ↔ (answer ≡ Err (NoPlan number place passes))
+  none_by (Ok more) number place passes =
       (λ e. absurd (let z : ◌≡◌ {A = ℕ} 0 1 = cc in omega arith), λ e. absurd (let z : ◌≡◌ {A = ℕ} 0 1 = cc in omega arith))
-  none_by (works.NoPlan other there more) number place passes = (
+  none_by (Err (NoPlan other there more)) number place passes = (
     λ e. let p : other ≡ number = cc in let q : there ≡ place = cc in let r : more ≡ passes = cc in rw (p, q, r),
     λ e. let p : other ≡ number = cc in let q : there ≡ place = cc in let r : more ≡ passes = cc in rw (p, q, r),
   )
-  none_by (works.Refused refusal) number place passes =
+  none_by (Err (Refused refusal)) number place passes =
       (λ e. absurd (let z : ◌≡◌ {A = ℕ} 0 1 = cc in omega arith), λ e. absurd (let z : ◌≡◌ {A = ℕ} 0 1 = cc in omega arith))
 
   -- the table is the settling's
-  table_by : (answer : Settling)
+  table_by : (answer : Result ℕ Unsettled)
       → ((report_by marks groups units answer lows highs buffer).lows ≡ lows) × ((report_by marks groups units answer lows highs buffer).highs ≡ highs)
-  table_by (works.Settled passes) = (refl, refl)
-  table_by (works.NoPlan number place passes) = (refl, refl)
-  table_by (works.Refused refusal) = (refl, refl)
+  table_by (Ok passes) = (refl, refl)
+  table_by (Err (NoPlan number place passes)) = (refl, refl)
+  table_by (Err (Refused refusal)) = (refl, refl)
 
 -- the length that a report answers lies within the buffer
 pub written_within : (text lows highs : List ℕ) (scratch : ℕ) (buffer : List ℕ) {count passes : ℕ} {next_lows next_highs exit : List ℕ}
-    → reported (Written count passes) next_lows next_highs exit ≡ report_text text lows highs scratch buffer → count ≤ length exit
+    → reported (Ok (record { length = count; passes = passes })) next_lows next_highs exit ≡ report_text text lows highs scratch buffer → count ≤ length exit
 unfolding report_text report_settled
 written_within text lows highs scratch buffer {count} {passes} {next_lows} {next_highs} {exit} is = by_length (leb most_bytes (length buffer)) is
   where
     by_length : (long : Bool)
-        → reported (Written count passes) next_lows next_highs exit
+        → reported (Ok (record { length = count; passes = passes })) next_lows next_highs exit
         ≡ pick long
         (report_settled (job_of (read_job text)).marks (job_of (read_job text)).groups (length (job_of (read_job text)).lows) (settle_text text lows highs scratch) buffer)
-        (reported (Refused (refusal 1 0)) lows highs buffer)
+        (reported (Err (Refused (refusal 1 0))) lows highs buffer)
         → count ≤ length exit
-    by_length true is = written_in _ _ _ _ _ buffer (settle_text text lows highs scratch).answer (reported (Written count passes) next_lows next_highs exit) refl is
+    by_length true is = written_in _ _ _ _ _ buffer (settle_text text lows highs scratch).answer (reported (Ok (record { length = count; passes = passes })) next_lows next_highs exit) refl is
     by_length false is = absurd (let e = says is in let z : ◌≡◌ {A = ℕ} 0 1 = cc in omega arith)
 
 module _ {text lows highs : List ℕ} {scratch : ℕ} (cleared : Cleared text lows highs scratch) (buffer : List ℕ)
@@ -94,9 +94,9 @@ module _ {text lows highs : List ℕ} {scratch : ℕ} (cleared : Cleared text lo
   left_is : left cleared buffer long ≡ after cleared
   left_is = rw (same_table_lem.0, same_table_lem.1)
 
-  module _ {size passes : ℕ} (answers : (outcome cleared buffer long).answer ≡ Written size passes) where
+  module _ {size passes : ℕ} (answers : (outcome cleared buffer long).answer ≡ Ok (record { length = size; passes = passes })) where
     -- the passes that it answers are the settling's
-    pub written_settled : (called cleared).answer ≡ works.Settled passes
+    pub written_settled : (called cleared).answer ≡ Ok passes
     written_settled = written_by _ _ _ _ _ buffer (called cleared).answer (rw reports at answers)
 
     -- the buffer holds the report of the table that the call leaves and of the passes, then what it held
@@ -120,11 +120,11 @@ module _ {text lows highs : List ℕ} {scratch : ℕ} (cleared : Cleared text lo
 
     -- settling the table that it leaves takes one pass and changes nothing
     pub written_again : settle_text text (outcome cleared buffer long).lows (outcome cleared buffer long).highs scratch
-        ≡ settlement (works.Settled 1) (outcome cleared buffer long).lows (outcome cleared buffer long).highs
+        ≡ settlement (Ok 1) (outcome cleared buffer long).lows (outcome cleared buffer long).highs
     written_again = rw (same_table_lem.0, same_table_lem.1) (called_again cleared written_settled)
 
   -- refused for want of a plan exactly if no table inside the opening one is at rest
-  pub report_refused : ((number : ℕ) × (place : ℕ) × (passes : ℕ) × ((outcome cleared buffer long).answer ≡ NoPlan number place passes))
+  pub report_refused : ((number : ℕ) × (place : ℕ) × (passes : ℕ) × ((outcome cleared buffer long).answer ≡ Err (NoPlan number place passes)))
       ↔ NoneAtRest (marks cleared) (groups cleared) (opening cleared)
   report_refused = (
     λ (number, place, passes, answers). (called_refused cleared).0 (number, place, passes, (none_by _ _ _ _ _ buffer (called cleared).answer number place passes).0 (rw reports at answers)),

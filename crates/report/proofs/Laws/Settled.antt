@@ -1,13 +1,12 @@
 -- What a settling leaves can be reported: shares with each group's total exist, and the report fits its buffer. Assumes nothing.
-use Rattle.std.specs.Prelude.{ℕ, ◌≤◌, List, ◌++◌, take}
+use Rattle.model.specs.declared.Refusal.{Refusal}
+use Rattle.std.specs.Prelude.{ℕ, Result, Ok, Err, ◌≤◌, List, ◌++◌, take}
 use Rattle.std.proofs.Math.Path.{◌≡◌, refl, ap}
 use Rattle.std.proofs.Common.{sym, ◌∙◌, arith}
 use Rattle.std.proofs.Math.ListN.{length, drop}
 use Rattle.std.proofs.Math.Seq.{take_at, length-take-le}
 use Rattle.model.specs.Sound as one
 use Rattle.model.proofs.Laws.Sound as laws
-use Rattle.list_checks.specs.declared.Check.{Check}
-use Rattle.list_checks.specs.declared.Check.TheVariants.{Passed, Failed}
 use Rattle.groups.specs.Memberships.{memberships, SoundMembers}
 use Rattle.groups.specs.Inner.Flat.{groups_in, marks_in}
 use Rattle.groups.specs.Laws.Reading.{groups_counted}
@@ -28,8 +27,8 @@ use Rattle.works.proofs.Laws.Settled.{settled_inside, passes_bound}
 use Rattle.works.proofs.Laws.Turns.{gathered}
 use Rattle.works.specs.Settling.{Outcome, passes_of, settle}
 use Rattle.member_ranges.specs.Tables.{Table, table_of, units, lows_of, highs_of}
-use Rattle.works.specs.declared.Settling.{Settling}
-use Rattle.works.specs.declared.Settling.TheVariants as works
+use Rattle.works.specs.declared.Unsettled.{Unsettled}
+use Rattle.works.specs.declared.Unsettled.TheVariants as works
 use Rattle.report.proofs.Laws.Evenness.{levelled_evenest}
 use Rattle.report.specs.Reportable.{Levelable, Reportable}
 use Rattle.report.specs.Inner.Asked.{WithinLimits, Answerable}
@@ -93,16 +92,16 @@ module _ {flat : List ℕ} {count unit_count : ℕ} (limits : WithinLimits flat 
   opening = table_of (take unit_count lows) (take unit_count highs)
 
   pub settles : {next_lows next_highs : List ℕ} {passes : ℕ}
-      → settlement (works.Settled passes) next_lows next_highs ≡ settle_job marks groups unit_count lows highs scratch
+      → settlement (Ok passes) next_lows next_highs ≡ settle_job marks groups unit_count lows highs scratch
       → Settles marks groups unit_count lows highs next_lows next_highs passes
   unfolding settle_job
   settles {next_lows} {next_highs} {passes} is = by_check (check_table marks unit_count lows highs scratch) refl is
     where
-      by_outcome : (outcome : Outcome) → settle (running_groups marks groups) opening ≡ outcome → check_table marks unit_count lows highs scratch ≡ Passed
-          → settlement (works.Settled passes) next_lows next_highs ≡ leaving outcome unit_count lows highs
+      by_outcome : (outcome : Outcome) → settle (running_groups marks groups) opening ≡ outcome → check_table marks unit_count lows highs scratch ≡ Ok tt
+          → settlement (Ok passes) next_lows next_highs ≡ leaving outcome unit_count lows highs
           → Settles marks groups unit_count lows highs next_lows next_highs passes
       by_outcome (Outcome.refused number place more) e passed is =
-          let answers : works.Settled passes ≡ works.NoPlan number place more = ap (λ (s : Settlement). s.answer) is in
+          let answers : Ok passes ≡ Err (works.NoPlan number place more) = ap (λ (s : Settlement). s.answer) is in
           absurd (let z : ◌≡◌ {A = ℕ} 0 1 = cc in omega arith)
       by_outcome (Outcome.settled final more) e passed is =
           let fits = passed_room marks unit_count lows highs scratch passed in
@@ -115,7 +114,7 @@ module _ {flat : List ℕ} {count unit_count : ℕ} (limits : WithinLimits flat 
           let inside = settled_inside (running_sound ready) e in
           let lows_are : next_lows ≡ final.lows ++ drop unit_count lows = ap (λ (s : Settlement). s.lows) is in
           let highs_are : next_highs ≡ final.highs ++ drop unit_count highs = ap (λ (s : Settlement). s.highs) is in
-          let answers : works.Settled passes ≡ works.Settled more = ap (λ (s : Settlement). s.answer) is in
+          let answers : Ok passes ≡ Ok more = ap (λ (s : Settlement). s.answer) is in
           let counted : more ≡ passes = cc in
           let as_many_lows : length final.lows ≡ unit_count = inside.same_lows ∙ length-take-le unit_count lows fits.for_lows in
           let as_many_highs : length final.highs ≡ unit_count = inside.same_highs ∙ length-take-le unit_count highs fits.for_highs in
@@ -135,13 +134,13 @@ module _ {flat : List ℕ} {count unit_count : ℕ} (limits : WithinLimits flat 
                 e;
           }
 
-      by_check : (check : Check) → check_table marks unit_count lows highs scratch ≡ check
-          → settlement (works.Settled passes) next_lows next_highs ≡ settled_after check lows highs (leaving (settle (running_groups marks groups) opening) unit_count lows highs)
+      by_check : (check : Result (Unit {0}) Refusal) → check_table marks unit_count lows highs scratch ≡ check
+          → settlement (Ok passes) next_lows next_highs ≡ settled_after check lows highs (leaving (settle (running_groups marks groups) opening) unit_count lows highs)
           → Settles marks groups unit_count lows highs next_lows next_highs passes
-      by_check (Failed refusal) e is =
-          let answers : works.Settled passes ≡ works.Refused refusal = ap (λ (s : Settlement). s.answer) is in
+      by_check (Err refusal) e is =
+          let answers : Ok passes ≡ Err (works.Refused refusal) = ap (λ (s : Settlement). s.answer) is in
           absurd (let z : ◌≡◌ {A = ℕ} 0 1 = cc in omega arith)
-      by_check Passed e is = by_outcome (settle (running_groups marks groups) opening) refl e is
+      by_check (Ok tt) e is = by_outcome (settle (running_groups marks groups) opening) refl e is
 
 -- so the table that it leaves can be reported
 settles_reportable : {flat : List ℕ} {count unit_count passes : ℕ} {lows highs next_lows next_highs : List ℕ} → WithinLimits flat count unit_count
@@ -155,7 +154,7 @@ settles_reportable {flat} {count} limits settles =
 
 -- and so can its answer
 module _ {flat : List ℕ} {count unit_count : ℕ} (limits : WithinLimits flat count unit_count)
-    (lows highs : List ℕ) (scratch : ℕ) {next_lows next_highs : List ℕ} {answer : Settling} where
+    (lows highs : List ℕ) (scratch : ℕ) {next_lows next_highs : List ℕ} {answer : Result ℕ Unsettled} where
   pub settles_answerable : settlement answer next_lows next_highs ≡ settle_job (marks_in unit_count flat) (groups_in count flat) unit_count lows highs scratch
       → length next_lows ≡ length lows → length next_highs ≡ length highs → Answerable (marks_in unit_count flat) (groups_in count flat) unit_count answer next_lows next_highs
   settles_answerable is same_lows same_highs passes answers =

@@ -1,8 +1,8 @@
 -- What the functions of the report ask of their lists. Assumes nothing.
-use Rattle.std.specs.Prelude.{ℕ, ◌+◌, ◌≤◌, ◌≡◌, length, take}
+use Rattle.model.specs.declared.Refusal.{Refusal}
+use Rattle.std.specs.Prelude.{ℕ, Err, Result, Ok, ◌+◌, ◌≤◌, ◌≡◌, length, take}
 use mathlib.Core.List.{List, [], Memᴰ}
-use Rattle.levelling.specs.declared.Levelling.{Levelling}
-use Rattle.levelling.specs.declared.Levelling.TheVariants.{Levelled, Refused}
+use Rattle.levelling.specs.declared.Levelled.{Levelled}
 use Rattle.groups.specs.Memberships.{memberships, size, SoundGroup}
 use Rattle.groups.specs.Inner.Flat.{marks_from, marks_in, groups_in, Holds}
 use Rattle.job.specs.Job.{most_groups, most_memberships}
@@ -12,8 +12,7 @@ use Rattle.model.specs.Running.{Marked, marked_figures}
 use Rattle.works.specs.Resting.{marks_of}
 use Rattle.member_ranges.specs.Tables.{Table, Named, table_of, units, gather, lows_of, highs_of}
 use Rattle.model.specs.Sound.{SoundRanges}
-use Rattle.works.specs.declared.Settling.{Settling}
-use Rattle.works.specs.declared.Settling.TheVariants.{Settled}
+use Rattle.works.specs.declared.Unsettled.{Unsettled}
 use Rattle.report.specs.Lines.{group_line}
 use Rattle.report.specs.Reportable.{AllLevelable, Reportable}
 
@@ -42,15 +41,17 @@ pub record LevelMembers (members marks lows highs : List ℕ) : Type 0 where
   pub shut : Marked (gather marks members) (gather lows members) (gather highs members)
 
 -- what levelling a group that can be levelled answers, and the plan's first numbers after it
-pub record LevelledIn (marks : List ℕ) (table : Table) (group : Group) (answer : Levelling) (plan : List ℕ) : Type 0 where
-  pub answers : answer ≡ Levelled (record { copies = level (lows_of table group) (highs_of table group) group.total })
-      (marked_figures (marks_of marks group) group.total (levelled (lows_of table group) (highs_of table group) group.total))
+pub record LevelledIn (marks : List ℕ) (table : Table) (group : Group) (answer : Result Levelled Refusal) (plan : List ℕ) : Type 0 where
+  pub answers : answer ≡ Ok (record {
+    level = record { copies = level (lows_of table group) (highs_of table group) group.total };
+    figures = marked_figures (marks_of marks group) group.total (levelled (lows_of table group) (highs_of table group) group.total);
+  })
   pub holds : take (size group) plan ≡ levelled (lows_of table group) (highs_of table group) group.total
 
 -- the line of what levelling a group answers: its level, the figures and the shares; none on a refusal
-abbrev pub line_of_levelling : ℕ → Levelling → List ℕ → List ℕ
-line_of_levelling number (Levelled level figures) shares = group_line number level.copies figures shares
-line_of_levelling number (Refused refusal) shares = []
+abbrev pub line_of_levelling : ℕ → Result Levelled Refusal → List ℕ → List ℕ
+line_of_levelling number (Ok answer) shares = group_line number answer.level.copies answer.figures shares
+line_of_levelling number (Err refusal) shares = []
 
 -- the groups of a flat list, over so many units, are within the limits of 01
 pub record WithinLimits (flat : List ℕ) (count unit_count : ℕ) : Type 0 where
@@ -65,5 +66,5 @@ pub record FrontReportable (marks : List ℕ) (groups : List Group) (unit_count 
   pub reportable : Reportable marks groups (table_of (take unit_count lows) (take unit_count highs)) passes
 
 -- where a settling answers with the passes, what it leaves can be reported
-abbrev pub Answerable : List ℕ → List Group → ℕ → Settling → List ℕ → List ℕ → Type 0
-Answerable marks groups unit_count answer lows highs = (passes : ℕ) → answer ≡ Settled passes → FrontReportable marks groups unit_count passes lows highs
+abbrev pub Answerable : List ℕ → List Group → ℕ → Result ℕ Unsettled → List ℕ → List ℕ → Type 0
+Answerable marks groups unit_count answer lows highs = (passes : ℕ) → answer ≡ Ok passes → FrontReportable marks groups unit_count passes lows highs

@@ -1,5 +1,5 @@
 -- The groups of an accepted job are sound over every table of its units. Assumes nothing.
-use Rattle.std.specs.Prelude.{ℕ, ◌≤◌, ◌≡◌, length}
+use Rattle.std.specs.Prelude.{ℕ, Result, Ok, Err, ◌≤◌, ◌≡◌, length}
 use mathlib.Core.List.Memᴰ
 use mathlib.Core.List.{List, ◌++◌, Memᴰ}
 use Rattle.std.proofs.Common.{⊎_elim, sym, ◌∙◌, arith}
@@ -10,8 +10,7 @@ use Rattle.job.specs.Inner.Reading.{GroupsScanned}
 use Rattle.job.proofs.Laws.Reading.{accepted_by, refused_by_lem}
 use Rattle.job.specs.Sound as job
 use Rattle.job.proofs.Laws.Sound.{all_unsaid_any, accepted_sound}
-use Rattle.job.specs.declared.Reading.{Reading}
-use Rattle.job.specs.declared.Reading.TheVariants.{Read, Refused}
+use Rattle.job.specs.declared.Counts.{Counts}
 use Rattle.model.specs.Groups.{Group}
 use Rattle.model.proofs.Laws.Running.{marked_length}
 use Rattle.model.specs.Running.{Marked}
@@ -21,7 +20,7 @@ use Rattle.works.specs.Calls.{settlement, settle_job, settle_text}
 use Rattle.works.specs.Inner.Asked.{Prepared}
 use Rattle.member_ranges.specs.Tables.{Table, Valid, units}
 use Rattle.groups.specs.Memberships.{SoundGroup}
-use Rattle.works.specs.declared.Settling.TheVariants as works
+use Rattle.works.specs.declared.Unsettled.TheVariants as works
 
 -- the groups of an accepted job are sound
 pub each_sound : {count : ℕ} {groups : List Group} → job.AcceptedGroups count groups
@@ -65,23 +64,23 @@ module _ (text : List ℕ) (found : Job) (reads : read_job text ≡ accepted fou
         rw (← counts, marks, starts, ← lists, flatten_groups any rest, settle_text, reads)
 
 -- what scanning a text answers and leaves
-module _ {text flat₀ flat : List ℕ} {answer : Reading} (scanned : GroupsScanned text flat₀ flat answer) where
+module _ {text flat₀ flat : List ℕ} {answer : Result Counts Refusal} (scanned : GroupsScanned text flat₀ flat answer) where
   -- a text that is read is prepared for settling
-  pub read_prepared : most_flat ≤ length flat → {units groups : ℕ} → answer ≡ Read units groups → Prepared flat groups units
+  pub read_prepared : most_flat ≤ length flat → {units groups : ℕ} → answer ≡ Ok (record { units = units; groups = groups }) → Prepared flat groups units
   read_prepared space {units} {groups} reads =
       let (found, accepts, counts, lists) = accepted_by (read_job text) units groups (sym reads ∙ scanned.answer) in
       accepted_prepared text found accepts _ (scanned.found_flat found accepts) (scanned.found_marks found accepts) counts lists space
 
   -- and settled as its groups are
-  pub read_settles : {units groups : ℕ} → answer ≡ Read units groups → (table_lows table_highs : List ℕ) (scratch : ℕ)
+  pub read_settles : {units groups : ℕ} → answer ≡ Ok (record { units = units; groups = groups }) → (table_lows table_highs : List ℕ) (scratch : ℕ)
       → settle_job (marks_in units flat) (groups_in groups flat) units table_lows table_highs scratch ≡ settle_text text table_lows table_highs scratch
   read_settles {units} {groups} reads =
       let (found, accepts, counts, lists) = accepted_by (read_job text) units groups (sym reads ∙ scanned.answer) in
       accepted_settles text found accepts _ (scanned.found_flat found accepts) (scanned.found_marks found accepts) counts lists
 
   -- a text that is refused leaves the table
-  pub refused_settles : (refusal : Refusal) → answer ≡ Refused refusal → (table_lows table_highs : List ℕ) (scratch : ℕ)
-      → settlement (works.Refused refusal) table_lows table_highs ≡ settle_text text table_lows table_highs scratch
+  pub refused_settles : (refusal : Refusal) → answer ≡ Err refusal → (table_lows table_highs : List ℕ) (scratch : ℕ)
+      → settlement (Err (works.Refused refusal)) table_lows table_highs ≡ settle_text text table_lows table_highs scratch
   unfolding settle_text
   refused_settles refusal refuses table_lows table_highs scratch =
       rw (settle_text, refused_by_lem (read_job text) refusal (sym refuses ∙ scanned.answer))

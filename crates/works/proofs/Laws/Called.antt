@@ -1,5 +1,5 @@
 -- The promises of settling for the call on a text: its answer, and the table that it leaves. Assumes nothing.
-use Rattle.std.specs.Prelude.{ℕ, suc, ◌≤◌, List, ◌++◌, ◌↔◌, ◌≡◌, refl, length, take, drop}
+use Rattle.std.specs.Prelude.{ℕ, Result, Ok, Err, suc, ◌≤◌, List, ◌++◌, ◌↔◌, ◌≡◌, refl, length, take, drop}
 use Rattle.std.proofs.Common.{sym, ap, ◌∙◌, arith, length-append, length-drop, take-append-drop, length-take-le, take_at, drop_at}
 use Rattle.std.proofs.lemmas.List.{length-map}
 use Rattle.model.specs.Running.{Marked}
@@ -8,8 +8,8 @@ use Rattle.works.specs.Consistency.{SoundOpening, Apart}
 use Rattle.works.specs.Resting.{ShutOpening, running_group, running_groups, AtRest, NoneAtRest}
 use Rattle.works.specs.Settling.{Outcome, settle}
 use Rattle.member_ranges.specs.Tables.{Table, low_of, high_of, width, Inside}
-use Rattle.works.specs.declared.Settling.{Settling}
-use Rattle.works.specs.declared.Settling.TheVariants.{Settled, NoPlan}
+use Rattle.works.specs.declared.Unsettled.{Unsettled}
+use Rattle.works.specs.declared.Unsettled.TheVariants.{NoPlan}
 use Rattle.works.proofs.Laws.Accepted.{accepted_groups}
 use Rattle.works.proofs.Laws.Checked.{Roomy, passed_room, passed_ranges, passed_marked}
 use Rattle.member_ranges.specs.Laws.Inside.{same_ranges}
@@ -19,7 +19,7 @@ use Rattle.works.proofs.Laws.Settled.{settled_inside, passes_bound}
 use Rattle.works.specs.Called.{Cleared, passes_in, groups, marks, count, opening, called, after, WithoutPlan}
 
 -- what a settlement answers
-pub says : {s : Settlement} {answer : Settling} {lows highs : List ℕ} → s ≡ settlement answer lows highs → s.answer ≡ answer
+pub says : {s : Settlement} {answer : Result ℕ Unsettled} {lows highs : List ℕ} → s ≡ settlement answer lows highs → s.answer ≡ answer
 says is = ap (λ (s : Settlement). s.answer) is
 
 module _ {text lows highs : List ℕ} {scratch : ℕ} (cleared : Cleared text lows highs scratch) where
@@ -47,10 +47,10 @@ module _ {text lows highs : List ℕ} {scratch : ℕ} (cleared : Cleared text lo
   pub data CallEnds : Type 0 where
     settled : (passes : ℕ) → settle (running_groups (marks cleared) (groups cleared)) (opening cleared) ≡ Outcome.settled (after cleared) passes
         → called cleared
-        ≡ settlement (Settled passes) ((after cleared).lows ++ drop (count cleared) lows) ((after cleared).highs ++ drop (count cleared) highs)
+        ≡ settlement (Ok passes) ((after cleared).lows ++ drop (count cleared) lows) ((after cleared).highs ++ drop (count cleared) highs)
         → CallEnds
     refused : (number place passes : ℕ) → settle (running_groups (marks cleared) (groups cleared)) (opening cleared) ≡ Outcome.refused number place passes
-        → called cleared ≡ settlement (NoPlan number place passes) lows highs → CallEnds
+        → called cleared ≡ settlement (Err (NoPlan number place passes)) lows highs → CallEnds
 
   -- the units of the settled table are the opening table's
   pub first_count : {final : Table} {passes : ℕ} → settle (running_groups (marks cleared) (groups cleared)) (opening cleared) ≡ Outcome.settled final passes
@@ -69,7 +69,7 @@ module _ {text lows highs : List ℕ} {scratch : ℕ} (cleared : Cleared text lo
   by_outcome : (outcome : Outcome) → settle (running_groups (marks cleared) (groups cleared)) (opening cleared) ≡ outcome → CallEnds
   by_outcome (Outcome.settled final passes) is =
       let left : called cleared
-      ≡ settlement (Settled passes) (final.lows ++ drop (count cleared) lows) (final.highs ++ drop (count cleared) highs) = called_is ∙ rw is in
+      ≡ settlement (Ok passes) (final.lows ++ drop (count cleared) lows) (final.highs ++ drop (count cleared) highs) = called_is ∙ rw is in
       let low_ends : (after cleared).lows ≡ final.lows =
       ap (λ (s : Settlement). take (count cleared) s.lows) left
       ∙ take_at final.lows (drop (count cleared) lows) (count cleared) (first_count is) in
@@ -86,11 +86,11 @@ module _ {text lows highs : List ℕ} {scratch : ℕ} (cleared : Cleared text lo
   ends = by_outcome (settle (running_groups (marks cleared) (groups cleared)) (opening cleared)) refl
 
   -- which is not settled
-  pub settled_not : {passes : ℕ} → (called cleared).answer ≡ Settled passes → WithoutPlan cleared → ⊥
+  pub settled_not : {passes : ℕ} → (called cleared).answer ≡ Ok passes → WithoutPlan cleared → ⊥
   settled_not answers (number, place, count, refuses) = let z : ◌≡◌ {A = ℕ} 0 1 = cc in omega arith
 
   -- where the answer is settled
-  module _ {passes : ℕ} (answers : (called cleared).answer ≡ Settled passes) where
+  module _ {passes : ℕ} (answers : (called cleared).answer ≡ Ok passes) where
     -- the outcome of settling is the table that the call leaves
     pub called_settled : settle (running_groups (marks cleared) (groups cleared)) (opening cleared) ≡ Outcome.settled (after cleared) passes
     called_settled = settles ends
@@ -134,15 +134,15 @@ module _ {text lows highs : List ℕ} {scratch : ℕ} (cleared : Cleared text lo
       back (CallEnds.refused number place passes is said) none = (number, place, passes, says said)
 
   -- then it says 11 or 12 and the place of a group, and the table holds what it held
-  pub called_refusal : {number place passes : ℕ} → (called cleared).answer ≡ NoPlan number place passes
-      → (WantOfPlan number × (1 ≤ place) × (place ≤ length (groups cleared))) × (called cleared ≡ settlement (NoPlan number place passes) lows highs)
+  pub called_refusal : {number place passes : ℕ} → (called cleared).answer ≡ Err (NoPlan number place passes)
+      → (WantOfPlan number × (1 ≤ place) × (place ≤ length (groups cleared))) × (called cleared ≡ settlement (Err (NoPlan number place passes)) lows highs)
   called_refusal {number} {place} {passes} answers = refuses ends
     where
       refuses : CallEnds → (WantOfPlan number × (1 ≤ place) × (place ≤ length (groups cleared)))
-          × (called cleared ≡ settlement (NoPlan number place passes) lows highs)
+          × (called cleared ≡ settlement (Err (NoPlan number place passes)) lows highs)
       refuses (CallEnds.settled count is said) = absurd (let z : ◌≡◌ {A = ℕ} 0 1 = cc (says said) in omega arith)
       refuses (CallEnds.refused other there count is said) =
-          let same : NoPlan other there count ≡ NoPlan number place passes = sym (says said) ∙ answers in
+          let same : Err (NoPlan other there count) ≡ Err (NoPlan number place passes) = sym (says said) ∙ answers in
           let at_number : other ≡ number = cc in
           let at_place : there ≡ place = cc in
           let at_passes : count ≡ passes = cc in

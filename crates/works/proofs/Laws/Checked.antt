@@ -1,5 +1,5 @@
 -- A table that passes the checks is ready for settling. Assumes nothing.
-use Rattle.std.specs.Prelude.{ℕ, ◌*◌, ◌≤◌, true, ◌≡◌, refl, leb, length, take, drop}
+use Rattle.std.specs.Prelude.{ℕ, Ok, Result, Err, ◌*◌, ◌≤◌, true, ◌≡◌, refl, leb, length, take, drop}
 use mathlib.Core.List.{List, ◌++◌}
 use Rattle.std.proofs.Common.{sym, ◌∙◌, arith, leb-true, le-leb, length-take-le}
 use Rattle.std.proofs.Math.Path.{ap}
@@ -8,7 +8,6 @@ use Rattle.list_checks.specs.Checks.{check_lists}
 use Rattle.list_checks.specs.Findings.{Finding, SizedLists}
 use Rattle.list_checks.proofs.Laws.Findings.{check_exactly, passed_sound, passed_marked as lists_marked, refuse_passed}
 use Rattle.model.specs.Sound as one
-use Rattle.list_checks.specs.declared.Check.TheVariants.{Passed, Failed}
 use Rattle.model.proofs.Laws.Running.{marked_length}
 use Rattle.model.proofs.Laws.Tests.{both, both_left, both_right}
 use Rattle.model.specs.Running.{Marked}
@@ -21,8 +20,8 @@ use Rattle.works.specs.Inner.Asked.{Opening, Prepared, running_in}
 use Rattle.works.specs.Resting.{running_groups}
 use Rattle.works.specs.Settling.{settle}
 use Rattle.member_ranges.specs.Tables.{table_of}
-use Rattle.works.specs.declared.Settling.{Settling}
-use Rattle.works.specs.declared.Settling.TheVariants.{Refused}
+use Rattle.works.specs.declared.Unsettled.{Unsettled}
+use Rattle.works.specs.declared.Unsettled.TheVariants.{Refused}
 
 -- lists long enough for the units
 pub record Roomy (units lows highs scratch : ℕ) : Type 0 where
@@ -44,7 +43,7 @@ roomy units lows highs scratch held =
 pub ranges_pass : (marks : List ℕ) (units : ℕ) (lows highs : List ℕ) (scratch : ℕ) → 1 ≤ units → units ≤ most_units
     → Roomy units (length lows) (length highs) scratch → Ranges (take units lows) (take units highs)
     → Marked marks (take units lows) (take units highs)
-    → check_table marks units lows highs scratch ≡ Passed
+    → check_table marks units lows highs scratch ≡ Ok tt
 unfolding check_table
 ranges_pass marks units lows highs scratch some few room ranges marked =
     let roomed : has_room units (length lows) (length highs) scratch ≡ true =
@@ -57,12 +56,12 @@ ranges_pass marks units lows highs scratch some few room ranges marked =
       few = omega arith;
       fits = omega arith;
     } in
-    rw roomed ((check_exactly (take units lows) (take units highs) marks units true Passed).1 (Finding.passed sizes refl ranges marked))
+    rw roomed ((check_exactly (take units lows) (take units highs) marks units true (Ok tt)).1 (Finding.passed sizes refl ranges marked))
 
 module _ (marks : List ℕ) (units : ℕ) (lows highs : List ℕ) (scratch : ℕ) where
   -- a table that passes has room, and its first units have ranges
-  module _ (passes : check_table marks units lows highs scratch ≡ Passed) where
-    parts : (has_room units (length lows) (length highs) scratch ≡ true) × (check_lists (take units lows) (take units highs) marks units true ≡ Passed)
+  module _ (passes : check_table marks units lows highs scratch ≡ Ok tt) where
+    parts : (has_room units (length lows) (length highs) scratch ≡ true) × (check_lists (take units lows) (take units highs) marks units true ≡ Ok tt)
     unfolding check_table
     parts = let both = refuse_passed _ _ _ _ passes in (not-false _ both.0, both.1)
 
@@ -72,11 +71,11 @@ module _ (marks : List ℕ) (units : ℕ) (lows highs : List ℕ) (scratch : ℕ
 
     -- the ranges are those of one group
     pub passed_ranges : one.SoundRanges (take units lows) (take units highs)
-    passed_ranges = (passed_sound ((check_exactly (take units lows) (take units highs) marks units true Passed).0 parts.1)).0
+    passed_ranges = (passed_sound ((check_exactly (take units lows) (take units highs) marks units true (Ok tt)).0 parts.1)).0
 
     -- each shut unit's is 0 to 0
     pub passed_marked : Marked marks (take units lows) (take units highs)
-    passed_marked = lists_marked ((check_exactly (take units lows) (take units highs) marks units true Passed).0 parts.1)
+    passed_marked = lists_marked ((check_exactly (take units lows) (take units highs) marks units true (Ok tt)).0 parts.1)
 
     -- groups prepared for as many units can be settled over them
     pub passed_opening : {flat : List ℕ} {count : ℕ} → Prepared flat count units
@@ -92,7 +91,7 @@ module _ (marks : List ℕ) (units : ℕ) (lows highs : List ℕ) (scratch : ℕ
     }
 
     -- the outcome is that of settling the running groups
-    pub passed_settles : (flat : List ℕ) (count : ℕ) → marks ≡ marks_in units flat → {answer : Settling} {next_lows next_highs : List ℕ}
+    pub passed_settles : (flat : List ℕ) (count : ℕ) → marks ≡ marks_in units flat → {answer : Result ℕ Unsettled} {next_lows next_highs : List ℕ}
         → answer ≡ answer_of (settle (running_in count (length (take units lows)) flat) (table_of (take units lows) (take units highs)))
         → table_of next_lows next_highs ≡ table_after (settle (running_in count (length (take units lows)) flat) (table_of (take units lows) (take units highs))) (table_of (take units lows) (take units highs))
         → settlement answer (next_lows ++ drop units lows) (next_highs ++ drop units highs) ≡ settle_job (marks_in units flat) (groups_in count flat) units lows highs scratch
@@ -105,7 +104,7 @@ module _ (marks : List ℕ) (units : ℕ) (lows highs : List ℕ) (scratch : ℕ
 
   -- a refusal leaves the table
   pub failed_refuses : (flat : List ℕ) (count : ℕ) → marks ≡ marks_in units flat → (refusal : Refusal)
-      → check_table marks units lows highs scratch ≡ Failed refusal
-      → settlement (Refused refusal) lows highs ≡ settle_job (marks_in units flat) (groups_in count flat) units lows highs scratch
+      → check_table marks units lows highs scratch ≡ Err refusal
+      → settlement (Err (Refused refusal)) lows highs ≡ settle_job (marks_in units flat) (groups_in count flat) units lows highs scratch
   unfolding settle_job
   failed_refuses flat count are refusal fails = rw (← are, fails)

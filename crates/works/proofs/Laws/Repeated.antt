@@ -1,5 +1,5 @@
 -- Calls on a text repeated: over the settled table, and on a text with the same groups. Assumes nothing.
-use Rattle.std.specs.Prelude.{ℕ, ◌↔◌, ◌≡◌}
+use Rattle.std.specs.Prelude.{ℕ, Ok, ◌↔◌, ◌≡◌}
 use mathlib.Core.List.{List, Memᴰ}
 use Rattle.std.proofs.Math.Option.{none, some}
 use Rattle.std.proofs.Common.{sym, ap, ◌∙◌, arith, take-append-drop}
@@ -9,7 +9,6 @@ use Rattle.works.specs.Calls.{Settlement, settlement, settle_text}
 use Rattle.works.specs.Resting.{running_groups}
 use Rattle.works.specs.Settling.{settled_table, settle}
 use Rattle.member_ranges.specs.Tables.{Table}
-use Rattle.works.specs.declared.Settling.TheVariants.{Settled}
 use Rattle.works.specs.Called.{Cleared, groups, marks, count, opening, called, after, WithoutPlan}
 use Rattle.works.proofs.Laws.Called.{CallEnds, roomed, opening_sound, called_is, ends, called_settled, called_consistent, called_shut, called_lengths, says, settled_not}
 use Rattle.works.proofs.Laws.Checked.{ranges_pass}
@@ -18,7 +17,7 @@ use Rattle.works.proofs.Laws.Settled.{settled_again, any_order}
 
 -- over the settled table
 module _ {text lows highs : List ℕ} {scratch : ℕ} (cleared : Cleared text lows highs scratch) {passes : ℕ}
-    (answers : (called cleared).answer ≡ Settled passes) where
+    (answers : (called cleared).answer ≡ Ok passes) where
   -- the checks let the settled table through
   abbrev pub settled_cleared : Cleared text (called cleared).lows (called cleared).highs scratch
   settled_cleared = record {
@@ -38,7 +37,7 @@ module _ {text lows highs : List ℕ} {scratch : ℕ} (cleared : Cleared text lo
   }
 
   -- settling a settled table takes one pass and changes nothing
-  pub called_again : settle_text text (called cleared).lows (called cleared).highs scratch ≡ settlement (Settled 1) (called cleared).lows (called cleared).highs
+  pub called_again : settle_text text (called cleared).lows (called cleared).highs scratch ≡ settlement (Ok 1) (called cleared).lows (called cleared).highs
   called_again =
       called_is settled_cleared
       ∙ rw (

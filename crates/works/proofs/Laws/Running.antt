@@ -130,7 +130,7 @@ module _ (flat : List ℕ) (count : ℕ) where
           }
 
   -- after so many passes, what is left of the settling makes it whole
-  pub record Unsettled (opening table : Table) (passes : ℕ) : Type 0 where
+  pub record SettlingUnderWay (opening table : Table) (passes : ℕ) : Type 0 where
     pub ready : Opening flat count table
     pub same_units : units table ≡ units opening
     pub bound : passes + width table ≤ width opening
@@ -139,7 +139,7 @@ module _ (flat : List ℕ) (count : ℕ) where
     pub rest : settle_from more passes (groups opening) table ≡ settle (groups opening) opening
 
   -- a settling starts
-  pub unsettled_start : {table : Table} → Opening flat count table → Unsettled table table 0
+  pub unsettled_start : {table : Table} → Opening flat count table → SettlingUnderWay table table 0
   unfolding settle
   unsettled_start {table} opening = record {
     ready = opening;
@@ -150,7 +150,7 @@ module _ (flat : List ℕ) (count : ℕ) where
     rest = refl;
   }
 
-  module _ {opening table : Table} {passes : ℕ} (unsettled : Unsettled opening table passes) where
+  module _ {opening table : Table} {passes : ℕ} (unsettled : SettlingUnderWay opening table passes) where
     -- one pass more
     record Once : Type 0 where
       pub more : ℕ
@@ -197,7 +197,7 @@ module _ (flat : List ℕ) (count : ℕ) where
           (ap (λ (t : Table). width t) (widths_same after.valid unsettled.ready.sound.valid after.inside (omega arith))))
 
       -- and the settling goes on
-      pub pass_goes_on : width next ≢ width table → Unsettled opening next (passes + 1)
+      pub pass_goes_on : width next ≢ width table → SettlingUnderWay opening next (passes + 1)
       unfolding settle_from
       pass_goes_on moved =
           let differs : same_table next table ≡ false = refuted (same_table next table) (λ same. moved (ap (λ (t : Table). width t) (same_table_lem same))) in

@@ -1,7 +1,6 @@
 -- The groups and marks of a text that is read are held, and with the ranges of a table that passes the checks they make a sound job. Assumes nothing.
-use Rattle.std.specs.Prelude.{ℕ, zero, suc, ◌+◌, ◌*◌, ◌≤◌, List, [], ◌∷◌, ◌++◌, ◌≡◌, refl, length, take, drop}
+use Rattle.std.specs.Prelude.{ℕ, Result, Ok, Err, zero, suc, ◌+◌, ◌*◌, ◌≤◌, List, [], ◌∷◌, ◌++◌, ◌≡◌, refl, length, take, drop}
 use Rattle.std.proofs.Common.{sym, ap, ◌∙◌, arith, length-drop, length-take-le}
-use Rattle.list_checks.specs.declared.Check.TheVariants.{Passed}
 use Rattle.groups.specs.Inner.Flat.{flatten, groups_in, marks_from, marks_in}
 use Rattle.groups.specs.Laws.Reading.{flatten_groups, flatten_holds}
 use Rattle.job.specs.Inner.Reading.{GroupsScanned}
@@ -9,8 +8,7 @@ use Rattle.job.specs.Job.{Job, accepted, read_job}
 use Rattle.job.proofs.Laws.Reading.{accepted_by, refused_by_lem}
 use Rattle.job.proofs.Laws.Sound.{all_unsaid_any, accepted_sound}
 use Rattle.job.specs.Sound.{SoundJob}
-use Rattle.job.specs.declared.Reading.{Reading}
-use Rattle.job.specs.declared.Reading.TheVariants as reading
+use Rattle.job.specs.declared.Counts.{Counts}
 use Rattle.model.specs.Groups.{Group}
 use Rattle.model.proofs.Laws.Running.{marked_length}
 use Rattle.model.specs.Running.{Marked}
@@ -23,7 +21,6 @@ use Rattle.writer.specs.Calls.{written_text, write_job, write_over, write_text}
 use Rattle.writer.specs.Inner.Asked.{job_held, HeldGroups}
 use Rattle.writer.proofs.Laws.Writes.{over_passed}
 use Rattle.job_lines.specs.Texts.{job_with}
-use Rattle.writer.specs.declared.Writing.TheVariants.{Refused}
 
 -- the first numbers of a list are no more than the list
 take_within : (n : ℕ) (xs : List ℕ) → length (take n xs) ≤ length xs
@@ -62,7 +59,7 @@ with_sound job sound table valid marked counts =
 
 -- so with those of a table that passes the checks
 pub over_sound : {marks : List ℕ} {listed : List Group} {number : ℕ} (lows highs : List ℕ) (scratch : ℕ) (job : Job) → SoundJob job
-    → job.marks ≡ marks → job.groups ≡ listed → length job.lows ≡ number → check_table marks number lows highs scratch ≡ Passed
+    → job.marks ≡ marks → job.groups ≡ listed → length job.lows ≡ number → check_table marks number lows highs scratch ≡ Ok tt
     → SoundJob (job_with marks listed (first_of number lows highs))
 over_sound {marks} {listed} {number} lows highs scratch job sound marked lists counts passes =
     let room = passed_room marks number lows highs scratch passes in
@@ -73,7 +70,7 @@ over_sound {marks} {listed} {number} lows highs scratch job sound marked lists c
 
 -- a flat list's job over the first units of a table that passes the checks
 module _ {flat : List ℕ} {count units : ℕ} (held : HeldGroups flat count units) (lows highs : List ℕ)
-    (passes : check_table (marks_in units flat) units lows highs (8 * units) ≡ Passed) where
+    (passes : check_table (marks_in units flat) units lows highs (8 * units) ≡ Ok tt) where
   -- has the marks of these units
   held_job : job_held flat count (take units lows) (take units highs) ≡ job_with (marks_in units flat) (groups_in count flat) (first_of units lows highs)
   held_job = rw (length-take-le units lows (passed_room (marks_in units flat) units lows highs (8 * units) passes).for_lows)
@@ -113,22 +110,22 @@ module _ (found : Job) {flat : List ℕ} (rest : List ℕ) {number count : ℕ} 
       rw (← counts, ← lists, marked, starts, flatten_groups any rest, write_text, reads)
 
 -- what scanning a text answers and leaves
-module _ {text flat₀ flat : List ℕ} {answer : Reading} (scanned : GroupsScanned text flat₀ flat answer) where
+module _ {text flat₀ flat : List ℕ} {answer : Result Counts Refusal} (scanned : GroupsScanned text flat₀ flat answer) where
   -- the groups of a text that is read are held
-  pub read_held : {number count : ℕ} → answer ≡ reading.Read number count → HeldGroups flat count number
+  pub read_held : {number count : ℕ} → answer ≡ Ok (record { units = number; groups = count }) → HeldGroups flat count number
   read_held {number} {count} reads =
       let (found, accepts, counts, lists) = accepted_by (read_job text) number count (sym reads ∙ scanned.answer) in
       starts_held found _ (scanned.found_flat found accepts) (scanned.found_marks found accepts) counts lists (accepted_sound text found accepts)
 
   -- it is written as its groups are
-  pub read_writes : {number count : ℕ} → answer ≡ reading.Read number count → (lows highs buffer : List ℕ)
+  pub read_writes : {number count : ℕ} → answer ≡ Ok (record { units = number; groups = count }) → (lows highs buffer : List ℕ)
       → write_over (marks_in number flat) (groups_in count flat) number lows highs buffer ≡ write_text text lows highs buffer
   read_writes {number} {count} reads =
       let (found, accepts, counts, lists) = accepted_by (read_job text) number count (sym reads ∙ scanned.answer) in
       starts_writes found _ (scanned.found_flat found accepts) (scanned.found_marks found accepts) counts lists text accepts
 
   -- a text that is refused leaves the buffer
-  pub refused_writes : (refusal : Refusal) → answer ≡ reading.Refused refusal → (lows highs buffer : List ℕ)
-      → written_text (Refused refusal) buffer ≡ write_text text lows highs buffer
+  pub refused_writes : (refusal : Refusal) → answer ≡ Err refusal → (lows highs buffer : List ℕ)
+      → written_text (Err refusal) buffer ≡ write_text text lows highs buffer
   unfolding write_text
   refused_writes refusal refuses lows highs buffer = rw (write_text, refused_by_lem (read_job text) refusal (sym refuses ∙ scanned.answer))

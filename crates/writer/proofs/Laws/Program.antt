@@ -1,6 +1,6 @@
 -- Settling a table that a text's unit lines filled and writing what that leaves gives what is handed on. Assumes nothing.
-use Rattle.std.specs.Prelude.{ℕ, ◌≤◌, List, ◌++◌, length, drop}
-use Rattle.std.proofs.Math.Path.{◌≡◌, sym, ap}
+use Rattle.std.specs.Prelude.{ℕ, Result, Ok, Err, IsOk, ◌≤◌, List, ◌++◌, length, drop}
+use Rattle.std.proofs.Math.Path.{◌≡◌, refl, sym, ap}
 use Rattle.std.proofs.Common.{◌∙◌, arith}
 use Rattle.form.specs.Form.{most_bytes}
 use Rattle.model.specs.declared.Refusal.{Refusal}
@@ -12,26 +12,23 @@ use Rattle.works.proofs.Laws.Called.{CallEnds, ends, says, called_settled}
 use Rattle.works.proofs.Laws.Repeated.{settled_cleared}
 use Rattle.works.specs.Resting.{running_groups}
 use Rattle.works.specs.Settling.{Outcome, settle}
-use Rattle.works.specs.declared.Settling.{Settling}
-use Rattle.works.specs.declared.Settling.TheVariants.{Settled, NoPlan, Refused}
+use Rattle.works.specs.declared.Unsettled.{Unsettled}
+use Rattle.works.specs.declared.Unsettled.TheVariants.{NoPlan, Refused}
 use Rattle.writer.specs.Calls.{WrittenText, written_text, write_text}
 use Rattle.writer.specs.Handing.{handed_after, handed_on}
 use Rattle.writer.specs.Inner.Asked.{LetThrough}
 use Rattle.writer.proofs.Laws.Answers.{let_through}
 use Rattle.writer.proofs.Laws.Handing.{handed_settles}
 use Rattle.writer.proofs.Laws.Promises.{always_written, written_size, written_holds}
-use Rattle.writer.specs.declared.Writing.TheVariants as writing
 
--- a text and a table that are let through are not refused by a buffer of 65,536 bytes
-pub never_short : {text lows highs : List ℕ} (buffer : List ℕ) {exit : List ℕ} {reason : Refusal} → LetThrough text lows highs
-    → most_bytes ≤ length buffer → written_text (writing.Refused reason) exit ≡ write_text text lows highs buffer → ⊥
-never_short buffer {reason = reason} through long is =
-    let differ : writing.Refused reason ≡ writing.Written _ =
-    ap (λ (w : WrittenText). w.answer) is ∙ always_written through.cleared buffer (omega arith) in
-    let z : ◌≡◌ {A = ℕ} 0 1 = cc in omega arith
+-- a text and a table that are let through are written into a buffer of 65,536 bytes
+pub never_short : {text lows highs : List ℕ} (buffer : List ℕ) {exit : List ℕ} {answer : Result ℕ Refusal} → LetThrough text lows highs
+    → most_bytes ≤ length buffer → written_text answer exit ≡ write_text text lows highs buffer → IsOk answer
+never_short buffer through long is =
+    rw (ap (λ (w : WrittenText). w.answer) is, always_written through.cleared buffer (omega arith)) refl
 
 -- settling over the table that a text's unit lines filled
-module _ {text lows highs : List ℕ} {scratch : ℕ} (opened : Opened text lows highs scratch) {answer : Settling} {next_lows next_highs : List ℕ}
+module _ {text lows highs : List ℕ} {scratch : ℕ} (opened : Opened text lows highs scratch) {answer : Result ℕ Unsettled} {next_lows next_highs : List ℕ}
     (is : settlement answer next_lows next_highs ≡ settle_text text lows highs scratch) where
   abbrev cleared : Cleared text lows highs scratch
   cleared = opened.cleared
@@ -47,25 +44,25 @@ module _ {text lows highs : List ℕ} {scratch : ℕ} (opened : Opened text lows
   answered = ap (λ (s : Settlement). s.answer) (sym is)
 
   -- no refusal comes ahead of the first pass
-  pub opened_through : {reason : Refusal} → answer ≡ Refused reason → ⊥
+  pub opened_through : {reason : Refusal} → answer ≡ Err (Refused reason) → ⊥
   opened_through refuses = let_through cleared (answered ∙ refuses)
 
   -- for want of a plan the refusal's line is handed on
-  pub refused_hands : {number place passes : ℕ} → answer ≡ NoPlan number place passes → handed_on text ≡ refusal_line number place
+  pub refused_hands : {number place passes : ℕ} → answer ≡ Err (NoPlan number place passes) → handed_on text ≡ refusal_line number place
   unfolding handed_after
   refused_hands {number} {place} {passes} refuses = by (ends cleared)
     where
       by : CallEnds cleared → handed_on text ≡ refusal_line number place
       by (CallEnds.settled count settles said) =
-          let differ : Settled count ≡ NoPlan number place passes = sym (says said) ∙ answered ∙ refuses in
+          let differ : Ok count ≡ Err (NoPlan number place passes) = sym (says said) ∙ answered ∙ refuses in
           absurd (let z : ◌≡◌ {A = ℕ} 0 1 = cc in omega arith)
       by (CallEnds.refused other there count settles said) =
-          let same : NoPlan other there count ≡ NoPlan number place passes = sym (says said) ∙ answered ∙ refuses in
+          let same : Err (NoPlan other there count) ≡ Err (NoPlan number place passes) = sym (says said) ∙ answered ∙ refuses in
           let at_number : other ≡ number = cc in
           let at_place : there ≡ place = cc in
           handed_opening settles ∙ ap (λ (n : ℕ). refusal_line n there) at_number ∙ ap (refusal_line number) at_place
 
-  module _ {passes : ℕ} (settles : answer ≡ Settled passes) where
+  module _ {passes : ℕ} (settles : answer ≡ Ok passes) where
     lows_are : (called cleared).lows ≡ next_lows
     lows_are = ap (λ (s : Settlement). s.lows) (sym is)
 
@@ -77,13 +74,13 @@ module _ {text lows highs : List ℕ} {scratch : ℕ} (opened : Opened text lows
     settled_through = rw (← lows_are, ← highs_are) (record { scratch = scratch; cleared = settled_cleared cleared (answered ∙ settles) })
 
     -- and what is written of it is handed on
-    pub settled_hands : (buffer : List ℕ) {size : ℕ} {exit : List ℕ} → written_text (writing.Written size) exit ≡ write_text text next_lows next_highs buffer
+    pub settled_hands : (buffer : List ℕ) {size : ℕ} {exit : List ℕ} → written_text (Ok size) exit ≡ write_text text next_lows next_highs buffer
         → (size ≡ length (handed_on text)) × (exit ≡ handed_on text ++ drop size buffer)
     unfolding handed_after
     settled_hands buffer {size} {exit} wrote =
-        let same : write_text text (called cleared).lows (called cleared).highs buffer ≡ written_text (writing.Written size) exit =
+        let same : write_text text (called cleared).lows (called cleared).highs buffer ≡ written_text (Ok size) exit =
         (λ i. write_text text (lows_are i) (highs_are i) buffer) ∙ sym wrote in
-        let answers : (write_text text (called cleared).lows (called cleared).highs buffer).answer ≡ writing.Written size =
+        let answers : (write_text text (called cleared).lows (called cleared).highs buffer).answer ≡ Ok size =
         ap (λ (w : WrittenText). w.answer) same in
         let again = settled_cleared cleared (answered ∙ settles) in
         let handed = handed_opening (called_settled cleared (answered ∙ settles)) in

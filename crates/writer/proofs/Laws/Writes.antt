@@ -1,8 +1,7 @@
 -- What writing answers and leaves, by its tests and by the page that holds the text. Assumes nothing.
-use Rattle.std.specs.Prelude.{ℕ, ◌*◌, ◌≤◌, ◌<◌, List, ◌++◌, ◌≡◌, length, take, drop}
+use Rattle.std.specs.Prelude.{ℕ, Ok, Err, ◌*◌, ◌≤◌, ◌<◌, List, ◌++◌, ◌≡◌, length, take, drop}
 use Rattle.std.proofs.Common.{sym, ap, ◌∙◌, arith, le-leb, take_at}
 use Rattle.std.proofs.lemmas.Bool.{lt-leb}
-use Rattle.list_checks.specs.declared.Check.TheVariants.{Passed, Failed}
 use Rattle.job.specs.Job.{Job}
 use Rattle.model.specs.Groups.{Group}
 use Rattle.model.specs.Refusals.{refusal}
@@ -13,16 +12,15 @@ use Rattle.works.specs.Called.{first_of}
 use Rattle.works.specs.Calls.{check_table}
 use Rattle.writer.specs.Calls.{written_text, write_job, write_over}
 use Rattle.job_lines.specs.Texts.{job_with, job_text}
-use Rattle.writer.specs.declared.Writing.TheVariants.{Written, Refused}
 
 -- a text longer than the buffer is refused, and leaves it
-pub text_refused : (job : Job) (buffer : List ℕ) → length buffer < length (job_text job) → written_text (Refused (refusal 1 0)) buffer ≡ write_job job buffer
+pub text_refused : (job : Job) (buffer : List ℕ) → length buffer < length (job_text job) → written_text (Err (refusal 1 0)) buffer ≡ write_job job buffer
 unfolding write_job
 text_refused job buffer short = rw (lt-leb (length (job_text job)) (length buffer) short)
 
 -- a text that fits is written at its start
 pub text_written : (job : Job) (buffer : List ℕ) → length (job_text job) ≤ length buffer
-    → written_text (Written (length (job_text job))) (job_text job ++ drop (length (job_text job)) buffer) ≡ write_job job buffer
+    → written_text (Ok (length (job_text job))) (job_text job ++ drop (length (job_text job)) buffer) ≡ write_job job buffer
 unfolding write_job
 text_written job buffer fits = rw (le-leb (length (job_text job)) (length buffer) fits)
 
@@ -34,7 +32,7 @@ module _ (job : Job) (rest : List ℕ) {page : List ℕ} {size : ℕ} (counted :
 
   module _ (buffer : List ℕ) where
     -- is too long for the buffer
-    pub page_refused : length buffer < size → written_text (Refused (refusal 1 0)) buffer ≡ write_job job buffer
+    pub page_refused : length buffer < size → written_text (Err (refusal 1 0)) buffer ≡ write_job job buffer
     page_refused short = text_refused job buffer (omega (arith, counted))
 
     -- or fits there
@@ -43,20 +41,24 @@ module _ (job : Job) (rest : List ℕ) {page : List ℕ} {size : ℕ} (counted :
 
     -- and is then written
     pub page_written : {exit : List ℕ} {next : ℕ} → size ≤ length buffer → Wrote (take size page) buffer 0 exit next
-        → written_text (Written size) exit ≡ write_job job buffer
+        → written_text (Ok size) exit ≡ write_job job buffer
     page_written fits wrote =
         let (moved, leaves) = from_start (rw page_text at (page_room fits)) (rw page_text at wrote) in
         rw (leaves, counted) (text_written job buffer (omega (arith, counted)))
 
+    -- or its first bytes are copied there
+    pub page_copied : size ≤ length buffer → written_text (Ok size) (take size page ++ drop size buffer) ≡ write_job job buffer
+    page_copied fits = rw (page_text, counted) (text_written job buffer (omega (arith, counted)))
+
 module _ (marks : List ℕ) (groups : List Group) (units : ℕ) (lows highs buffer : List ℕ) where
   -- a table that fails the checks is refused, and the buffer holds what it held
-  pub over_failed : (reason : Refusal) → check_table marks units lows highs (8 * units) ≡ Failed reason
-      → written_text (Refused reason) buffer ≡ write_over marks groups units lows highs buffer
+  pub over_failed : (reason : Refusal) → check_table marks units lows highs (8 * units) ≡ Err reason
+      → written_text (Err reason) buffer ≡ write_over marks groups units lows highs buffer
   unfolding write_over
   over_failed reason fails = rw fails
 
   -- one that passes them is written
-  pub over_passed : check_table marks units lows highs (8 * units) ≡ Passed
+  pub over_passed : check_table marks units lows highs (8 * units) ≡ Ok tt
       → write_job (job_with marks groups (first_of units lows highs)) buffer ≡ write_over marks groups units lows highs buffer
   unfolding write_over
   over_passed passes = rw passes

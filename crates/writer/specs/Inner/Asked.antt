@@ -1,5 +1,5 @@
 -- What the functions of the writer ask of their lists. Assumes nothing.
-use Rattle.std.specs.Prelude.{ℕ, List, ◌≡◌, length}
+use Rattle.std.specs.Prelude.{ℕ, Result, List, ◌≡◌, length}
 use Rattle.groups.specs.Inner.Flat.{groups_in, marks_in, Holds}
 use Rattle.job.specs.Job.{Job}
 use Rattle.job.specs.Sound.{SoundJob}
@@ -7,7 +7,7 @@ use Rattle.report.specs.Inner.Printed.{Opened}
 use Rattle.works.specs.Called.{Cleared}
 use Rattle.works.specs.Calls.{settlement, settle_text}
 use Rattle.member_ranges.specs.Tables.{table_of}
-use Rattle.works.specs.declared.Settling.{Settling}
+use Rattle.works.specs.declared.Unsettled.{Unsettled}
 use Rattle.job_lines.specs.Texts.{job_with}
 
 -- the job of a flat list's groups and marks and of these ranges
@@ -29,7 +29,7 @@ pub record LetThrough (text lows highs : List ℕ) : Type 0 where
   pub cleared : Cleared text lows highs scratch
 
 -- what settling answers and leaves over the table that a text's unit lines filled
-pub record SettledFrom (text : List ℕ) (answer : Settling) (lows highs : List ℕ) : Type 0 where
+pub record SettledFrom (text : List ℕ) (answer : Result ℕ Unsettled) (lows highs : List ℕ) : Type 0 where
   pub lows₀ : List ℕ
   pub highs₀ : List ℕ
   pub scratch : ℕ

@@ -18,19 +18,19 @@ parts : (number level : ℕ) (figures : Figures) (shares : List ℕ) {buffer : L
 unfolding group_line
 parts number level figures shares room = begin _ refl room
 
-pub put_form-next-requires : goal.put_form-next-requires
-put_form-next-requires c = room_next (parts _ _ _ _ c.requires)
+pub form-requires : goal.form-requires
+form-requires c = room_next (parts _ _ _ _ c.requires)
 
-pub put_form-next-requires-2 : goal.put_form-next-requires-2
-put_form-next-requires-2 c =
-    room_next (next (parts _ _ _ _ c.requires) c.put_form-next.ensures)
+pub form-requires-2 : goal.form-requires-2
+form-requires-2 c =
+    room_next (next (parts _ _ _ _ c.requires) c.form.ensures.wrote)
 
-pub put_word-requires : goal.put_word-requires
-put_word-requires c =
-    room_next (next (next (parts _ _ _ _ c.requires) c.put_form-next.ensures) c.put_form-next-2.ensures)
+pub word-requires : goal.word-requires
+word-requires c =
+    room_next (next (next (parts _ _ _ _ c.requires) c.form.ensures.wrote) c.form-2.ensures.wrote)
 
-pub returns : goal.returns
+pub returns-clause-wrote : goal.returns-clause-wrote
 unfolding flatten
-returns c =
-    let opened = next (parts _ _ _ _ c.requires) c.put_form-next.ensures in
-    done refl (next (next opened c.put_form-next-2.ensures) c.put_word.ensures)
+returns-clause-wrote c =
+    let opened = next (parts _ _ _ _ c.requires) c.form.ensures.wrote in
+    done refl (next (next opened c.form-2.ensures.wrote) c.word.ensures.wrote)

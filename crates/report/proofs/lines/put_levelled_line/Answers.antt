@@ -11,5 +11,5 @@ nothing : {buffer : List ℕ} {at : ℕ} → Wrote [] buffer at buffer at
 unfolding written
 nothing = record { moved = omega arith; holds = refl }
 
-pub returns-in_default : goal.returns-in_default
-returns-in_default c = rw c.in_default.is nothing
+pub returns-in_default-clause-wrote : goal.returns-in_default-clause-wrote
+returns-in_default-clause-wrote c = rw c.in_default.is nothing

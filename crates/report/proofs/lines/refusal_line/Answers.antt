@@ -1,5 +1,5 @@
 -- The longest refusal's line fits. Assumes nothing.
-use native.Mathlib.Omega.{arith}
+use Rattle.std.proofs.Common.{rules, ◌∙◌, arith}
 use Rattle.print.specs.Inner.Written.{Room}
 use Rattle.print.specs.Laws.Written.{from_start}
 use Rattle.report.specs.Lines.{refusal_line}
@@ -18,10 +18,10 @@ room start =
           );
     }
 
-pub put_line-requires : goal.put_line-requires
-put_line-requires c = room (goal.at.put_line-requires c).Start
+pub line-requires : goal.line-requires
+line-requires c = room (goal.at.line-requires c).Start
 
 pub returns : goal.returns
 returns c =
-    let (counted, holds) = from_start (room (goal.at.returns c).Start) c.put_line.ensures in
-    record { value = counted; buffer_after = holds }
+    let (counted, holds) = from_start (room (goal.at.returns c).Start) c.line.ensures.wrote in
+    record { value = counted; buffer_after = search rules ∙ holds }

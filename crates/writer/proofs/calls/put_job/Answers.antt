@@ -1,9 +1,6 @@
 -- The unit lines and the group lines, which fit the buffer. Assumes nothing.
-use native.Mathlib.Omega.{arith}
-use Prim.Native.Nat.{ℕ, ◌+◌, ◌-◌, ◌≤◌}
-use mathlib.Core.List.{List, [], ◌∷◌, map, flatten}
-use mathlib.Core.Path.{◌≡◌, refl, sym}
-use lib.ListN.{length, take, drop}
+use Rattle.std.proofs.Common.{rules, ℕ, ◌+◌, ◌-◌, ◌≤◌, List, [], ◌∷◌, map, ◌≡◌, refl, sym, ◌∙◌, length, take, drop, arith}
+use mathlib.Core.List.{flatten}
 use Rattle.groups.specs.Inner.Flat.{marks_from, marks_in}
 use Rattle.job.specs.Job.{Job}
 use Rattle.job.specs.Sound.{SoundJob}
@@ -55,9 +52,9 @@ module _ (start : Start) where
 pub slice_bounds-put_range_lines-end : goal.slice_bounds-put_range_lines-end
 slice_bounds-put_range_lines-end c = within (goal.at.slice_bounds-put_range_lines-end c).Start
 
-pub put_range_lines-next-requires : goal.put_range_lines-next-requires
-put_range_lines-next-requires c =
-    let start = (goal.at.put_range_lines-next-requires c).Start in
+pub put_range_lines-requires : goal.put_range_lines-requires
+put_range_lines-requires c =
+    let start = (goal.at.put_range_lines-requires c).Start in
     rw (lent start) (record {
       highs_len = (ranges_length (sound start).built.ranges, many start);
       room = room_next (parts (sound start) c.requires.most_written_in_bounds);
@@ -66,7 +63,7 @@ put_range_lines-next-requires c =
 pub put_member_lines-requires : goal.put_member_lines-requires
 put_member_lines-requires c =
     let start = (goal.at.put_member_lines-requires c).Start in
-    let wrote = rw (lent start) at c.put_range_lines-next.ensures in
+    let wrote = rw (lent start) at c.put_range_lines.ensures.wrote in
     record {
       holds = c.requires.holds;
       accepted_groups = accepted_more (sound start).built.few_units (sound start).built.groups_sound;
@@ -78,6 +75,6 @@ unfolding flatten
 returns c =
     let start = (goal.at.returns c).Start in
     let long = c.requires.most_written_in_bounds in
-    let units-put = next (parts (sound start) long) (rw (lent start) at c.put_range_lines-next.ensures) in
-    let (counted, holds) = from_start (room (sound start) long) (done refl (next units-put c.put_member_lines.ensures)) in
-    record { value = counted; buffer_after = rw counted holds }
+    let units-put = next (parts (sound start) long) (rw (lent start) at c.put_range_lines.ensures.wrote) in
+    let (counted, holds) = from_start (room (sound start) long) (done refl (next units-put c.put_member_lines.ensures.wrote)) in
+    record { value = counted; buffer_after = rw counted (search rules ∙ holds) }
