@@ -1,5 +1,5 @@
 -- What levelling and narrowing promise C and Rust: demand 2 where the refusal's number is 0, and 01's words for any other. Assumes nothing.
-use Rattle.std.specs.Prelude.{ℕ, ◌≤◌, List, ◌≡◌, length}
+use Rattle.std.specs.Prelude.{ℕ, Result, Err, ◌≤◌, List, ◌≡◌, length}
 use Rattle.model.specs.declared.Figures.{Figures}
 use Rattle.model.specs.declared.Refusal.{Refusal}
 use Rattle.levelling.specs.Answers.{LevelFinding}
@@ -7,10 +7,7 @@ use Rattle.group.specs.Answers.{NarrowFinding}
 use Rattle.model.specs.Refusals.{refusal}
 use Rattle.levelling.specs.Promises.{LevelPromise}
 use Rattle.group.specs.Promises.{NarrowPromise}
-use Rattle.levelling.specs.declared.Levelling.{Levelling}
-use Rattle.levelling.specs.declared.Levelling.TheVariants as level
-use Rattle.group.specs.declared.Narrowing.{Narrowing}
-use Rattle.group.specs.declared.Narrowing.TheVariants as narrow
+use Rattle.levelling.specs.declared.Levelled.{Levelled}
 use Rattle.planner.specs.Foreign.{foreign_levelled, foreign_narrowed, foreign_limits}
 use Rattle.planner.specs.declared.ForeignLevelled.{ForeignLevelled}
 use Rattle.planner.specs.declared.ForeignLimits.{ForeignLimits}
@@ -35,9 +32,9 @@ pub record ForeignLevelPromise (lows highs marks : List ℕ) (total : ℕ) (plan
       → LevelPromise lows highs marks total answer.level (figures_in answer) plan after
   -- another number: 01's words for it hold, and the plan list is as it was
   pub refused : 1 ≤ answer.refusal.number
-      → LevelFinding lows highs marks total (length plan) (level.Refused (refusal_of answer.refusal)) × (after ≡ plan)
+      → LevelFinding lows highs marks total (length plan) (Err (refusal_of answer.refusal)) × (after ≡ plan)
   -- it is given wherever they hold
-  pub given : {words : Levelling} → LevelFinding lows highs marks total (length plan) words → answer ≡ foreign_levelled words
+  pub given : {words : Result Levelled Refusal} → LevelFinding lows highs marks total (length plan) words → answer ≡ foreign_levelled words
 
 -- what `danivomel_narrow` promises of its answer and of both lists
 pub record ForeignNarrowPromise (lows highs marks : List ℕ) (total : ℕ) (limits : ForeignLimits) (answer : ForeignRefusal)
@@ -46,6 +43,6 @@ pub record ForeignNarrowPromise (lows highs marks : List ℕ) (total : ℕ) (lim
   pub accepted : answer.number ≡ 0 → NarrowPromise lows highs marks total (foreign_limits limits) lows_after highs_after
   -- another number: 01's words for it hold, and the lists are as they were
   pub refused : 1 ≤ answer.number
-      → NarrowFinding lows highs marks total (foreign_limits limits) (narrow.Refused (refusal_of answer)) × (lows_after ≡ lows) × (highs_after ≡ highs)
+      → NarrowFinding lows highs marks total (foreign_limits limits) (Err (refusal_of answer)) × (lows_after ≡ lows) × (highs_after ≡ highs)
   -- it is given wherever they hold
-  pub given : {words : Narrowing} → NarrowFinding lows highs marks total (foreign_limits limits) words → answer ≡ foreign_narrowed words
+  pub given : {words : Result (Unit {0}) Refusal} → NarrowFinding lows highs marks total (foreign_limits limits) words → answer ≡ foreign_narrowed words

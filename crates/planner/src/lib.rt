@@ -8,8 +8,7 @@ ghost use Rattle.levelling.specs.Levelling.{levelling, plan_after};
 ghost use Rattle.group.specs.Narrowing.{narrowing, list_after};
 ghost use Rattle.planner.specs.Foreign.{foreign_refusal, foreign_levelled, foreign_narrowed, foreign_limit, foreign_limits};
 
-use group::Narrowing;
-use levelling::Levelling;
+use levelling::Levelled;
 use model::{Limit, Limits, Refusal};
 
 pub mod texts;
@@ -105,44 +104,51 @@ pub struct ForeignWritten {
     pub length: usize,
 }
 
+// No refusal.
+const ACCEPTED: ForeignRefusal = ForeignRefusal {
+    number: 0,
+    place: 0,
+};
+
 // A refusal as it crosses.
-fn refusal_out(refusal: Refusal) -> ForeignRefusal
-    ensures { result ≡ foreign_refusal refusal }
-{
-    ForeignRefusal {
-        number: refusal.number,
-        place: refusal.place,
+impl From<Refusal> for ForeignRefusal {
+    ghost from_gives = { λ refusal foreign. foreign ≡ foreign_refusal refusal };
+
+    fn from(refusal: Refusal) -> ForeignRefusal {
+        ForeignRefusal {
+            number: refusal.number,
+            place: refusal.place,
+        }
     }
 }
 
 // A levelling as it crosses.
-fn levelling_out(answer: Levelling) -> ForeignLevelled
-    ensures { result ≡ foreign_levelled answer }
-{
-    match answer {
-        Levelling::Levelled { level, figures } => ForeignLevelled {
-            refusal: ForeignRefusal {
-                number: 0,
-                place: 0,
+impl From<Result<Levelled, Refusal>> for ForeignLevelled {
+    ghost from_gives = { λ answer foreign. foreign ≡ foreign_levelled answer };
+
+    fn from(answer: Result<Levelled, Refusal>) -> ForeignLevelled {
+        match answer {
+            Ok(levelled) => ForeignLevelled {
+                refusal: ACCEPTED,
+                level: levelled.level.copies(),
+                deviation: ForeignDeviation {
+                    value: levelled.figures.deviation.0,
+                },
+                spread: ForeignSpread {
+                    value: levelled.figures.spread.0,
+                },
+                pairs: ForeignPairs {
+                    value: levelled.figures.pairs.0,
+                },
             },
-            level: level.copies(),
-            deviation: ForeignDeviation {
-                value: figures.deviation.0,
+            Err(refusal) => ForeignLevelled {
+                refusal: refusal.into(),
+                level: 0,
+                deviation: ForeignDeviation { value: 0 },
+                spread: ForeignSpread { value: 0 },
+                pairs: ForeignPairs { value: 0 },
             },
-            spread: ForeignSpread {
-                value: figures.spread.0,
-            },
-            pairs: ForeignPairs {
-                value: figures.pairs.0,
-            },
-        },
-        Levelling::Refused(refusal) => ForeignLevelled {
-            refusal: refusal_out(refusal),
-            level: 0,
-            deviation: ForeignDeviation { value: 0 },
-            spread: ForeignSpread { value: 0 },
-            pairs: ForeignPairs { value: 0 },
-        },
+        }
     }
 }
 
@@ -158,44 +164,43 @@ pub extern "C" fn danivomel_level(
     ensures value { result ≡ foreign_levelled (levelling lows.now highs.now marks.now total (length plan.old)) }
     ensures plan_after { plan.new ≡ plan_after (levelling lows.now highs.now marks.now total (length plan.old)) (levelled lows.now highs.now total) plan.old }
 {
-    let answer = group::level(lows, highs, marks, total, plan);
-    levelling_out(answer)
+    group::level(lows, highs, marks, total, plan).into()
 }
 
 // A limit as it came across.
-fn limit_in(limit: ForeignLimit) -> Limit
-    ensures { result ≡ foreign_limit limit }
-{
-    if limit.any {
-        return Limit::Any;
+impl From<ForeignLimit> for Limit {
+    ghost from_gives = { λ foreign limit. limit ≡ foreign_limit foreign };
+
+    fn from(foreign: ForeignLimit) -> Limit {
+        if foreign.any {
+            return Limit::Any;
+        }
+        Limit::AtMost(foreign.at_most)
     }
-    Limit::AtMost(limit.at_most)
 }
 
 // A group's limits as they came across.
-fn limits_in(limits: ForeignLimits) -> Limits
-    ensures { result ≡ foreign_limits limits }
-{
-    let deviation = limits.deviation;
-    let spread = limits.spread;
-    let pairs = limits.pairs;
-    Limits {
-        deviation: limit_in(deviation),
-        spread: limit_in(spread),
-        pairs: limit_in(pairs),
+impl From<ForeignLimits> for Limits {
+    ghost from_gives = { λ foreign limits. limits ≡ foreign_limits foreign };
+
+    fn from(foreign: ForeignLimits) -> Limits {
+        Limits {
+            deviation: foreign.deviation.into(),
+            spread: foreign.spread.into(),
+            pairs: foreign.pairs.into(),
+        }
     }
 }
 
 // A narrowing as it crosses.
-fn narrowing_out(answer: Narrowing) -> ForeignRefusal
-    ensures { result ≡ foreign_narrowed answer }
-{
-    match answer {
-        Narrowing::Narrowed => ForeignRefusal {
-            number: 0,
-            place: 0,
-        },
-        Narrowing::Refused(refusal) => refusal_out(refusal),
+impl From<Result<(), Refusal>> for ForeignRefusal {
+    ghost from_gives = { λ answer foreign. foreign ≡ foreign_narrowed answer };
+
+    fn from(answer: Result<(), Refusal>) -> ForeignRefusal {
+        match answer {
+            Ok(()) => ACCEPTED,
+            Err(refusal) => refusal.into(),
+        }
     }
 }
 
@@ -212,6 +217,5 @@ pub extern "C" fn danivomel_narrow(
     ensures lows_after { lows.new ≡ list_after (narrowing lows.old highs.old marks.now total (foreign_limits limits)) (marked_lows marks.now lows.old highs.old total (foreign_limits limits)) lows.old }
     ensures highs_after { highs.new ≡ list_after (narrowing lows.old highs.old marks.now total (foreign_limits limits)) (marked_highs marks.now lows.old highs.old total (foreign_limits limits)) highs.old }
 {
-    let answer = group::narrow(lows, highs, marks, total, limits_in(limits));
-    narrowing_out(answer)
+    group::narrow(lows, highs, marks, total, limits.into()).into()
 }

@@ -7,33 +7,30 @@ ghost use Rattle.writer.specs.Calls.{write_text};
 ghost use Rattle.table.specs.Tables.{lows_in, highs_in};
 ghost use Rattle.planner.specs.Foreign.{foreign_read, foreign_settled, foreign_report, foreign_written};
 
-use crate::{
-    ForeignRead, ForeignRefusal, ForeignReport, ForeignSettled, ForeignWritten, refusal_out,
-};
-use job::Reading;
-use report::Reporting;
+use crate::{ACCEPTED, ForeignRead, ForeignRefusal, ForeignReport, ForeignSettled, ForeignWritten};
+use job::Counts;
+use model::Refusal;
+use report::Written;
 use table::Range;
-use works::Settling;
-use writer::Writing;
+use works::Unsettled;
 
 // A reading as it crosses.
-fn reading_out(answer: Reading) -> ForeignRead
-    ensures { result ≡ foreign_read answer }
-{
-    match answer {
-        Reading::Read { units, groups } => ForeignRead {
-            refusal: ForeignRefusal {
-                number: 0,
-                place: 0,
+impl From<Result<Counts, Refusal>> for ForeignRead {
+    ghost from_gives = { λ answer foreign. foreign ≡ foreign_read answer };
+
+    fn from(answer: Result<Counts, Refusal>) -> ForeignRead {
+        match answer {
+            Ok(counts) => ForeignRead {
+                refusal: ACCEPTED,
+                units: counts.units,
+                groups: counts.groups,
             },
-            units,
-            groups,
-        },
-        Reading::Refused(refusal) => ForeignRead {
-            refusal: refusal_out(refusal),
-            units: 0,
-            groups: 0,
-        },
+            Err(refusal) => ForeignRead {
+                refusal: refusal.into(),
+                units: 0,
+                groups: 0,
+            },
+        }
     }
 }
 
@@ -44,34 +41,34 @@ pub extern "C" fn danivomel_read(text: &[u8], table: &mut [Range]) -> ForeignRea
     ensures table_after { lows_in table.new ≡ lows_after (read_table text.now (length (lows_in table.old)) (length (highs_in table.old))) (lows_in table.old) }
     ensures table_after_2 { highs_in table.new ≡ highs_after (read_table text.now (length (lows_in table.old)) (length (highs_in table.old))) (highs_in table.old) }
 {
-    let answer = table::read(text, table);
-    reading_out(answer)
+    table::read(text, table).into()
 }
 
 // A settling as it crosses.
-fn settling_out(answer: Settling) -> ForeignSettled
-    ensures { result ≡ foreign_settled answer }
-{
-    match answer {
-        Settling::Settled(passes) => ForeignSettled {
-            refusal: ForeignRefusal {
-                number: 0,
-                place: 0,
+impl From<Result<u64, Unsettled>> for ForeignSettled {
+    ghost from_gives = { λ answer foreign. foreign ≡ foreign_settled answer };
+
+    fn from(answer: Result<u64, Unsettled>) -> ForeignSettled {
+        match answer {
+            Ok(passes) => ForeignSettled {
+                refusal: ACCEPTED,
+                passes,
             },
-            passes,
-        },
-        Settling::NoPlan {
-            number,
-            place,
-            passes,
-        } => ForeignSettled {
-            refusal: ForeignRefusal { number, place },
-            passes,
-        },
-        Settling::Refused(refusal) => ForeignSettled {
-            refusal: refusal_out(refusal),
-            passes: 0,
-        },
+            Err(
+                Unsettled::NoPlan {
+                    number,
+                    place,
+                    passes,
+                },
+            ) => ForeignSettled {
+                refusal: ForeignRefusal { number, place },
+                passes,
+            },
+            Err(Unsettled::Refused(refusal)) => ForeignSettled {
+                refusal: refusal.into(),
+                passes: 0,
+            },
+        }
     }
 }
 
@@ -86,37 +83,37 @@ pub extern "C" fn danivomel_settle(
     ensures table_after { lows_in table.new ≡ (settle_text text.now (lows_in table.old) (highs_in table.old) (length scratch.old)).lows }
     ensures table_after_2 { highs_in table.new ≡ (settle_text text.now (lows_in table.old) (highs_in table.old) (length scratch.old)).highs }
 {
-    let answer = table::settle(text, table, scratch);
-    settling_out(answer)
+    table::settle(text, table, scratch).into()
 }
 
 // A report's answer as it crosses.
-fn reporting_out(answer: Reporting) -> ForeignReport
-    ensures { result ≡ foreign_report answer }
-{
-    match answer {
-        Reporting::Written { length, passes } => ForeignReport {
-            refusal: ForeignRefusal {
-                number: 0,
-                place: 0,
+impl From<Result<Written, Unsettled>> for ForeignReport {
+    ghost from_gives = { λ answer foreign. foreign ≡ foreign_report answer };
+
+    fn from(answer: Result<Written, Unsettled>) -> ForeignReport {
+        match answer {
+            Ok(written) => ForeignReport {
+                refusal: ACCEPTED,
+                passes: written.passes,
+                length: written.length,
             },
-            passes,
-            length,
-        },
-        Reporting::NoPlan {
-            number,
-            place,
-            passes,
-        } => ForeignReport {
-            refusal: ForeignRefusal { number, place },
-            passes,
-            length: 0,
-        },
-        Reporting::Refused(refusal) => ForeignReport {
-            refusal: refusal_out(refusal),
-            passes: 0,
-            length: 0,
-        },
+            Err(
+                Unsettled::NoPlan {
+                    number,
+                    place,
+                    passes,
+                },
+            ) => ForeignReport {
+                refusal: ForeignRefusal { number, place },
+                passes,
+                length: 0,
+            },
+            Err(Unsettled::Refused(refusal)) => ForeignReport {
+                refusal: refusal.into(),
+                passes: 0,
+                length: 0,
+            },
+        }
     }
 }
 
@@ -133,26 +130,24 @@ pub extern "C" fn danivomel_report(
     ensures table_after_2 { highs_in table.new ≡ (report_text text.now (lows_in table.old) (highs_in table.old) (length scratch.old) buffer.old).highs }
     ensures buffer_after { buffer.new ≡ (report_text text.now (lows_in table.old) (highs_in table.old) (length scratch.old) buffer.old).buffer }
 {
-    let answer = table::report(text, table, scratch, buffer);
-    reporting_out(answer)
+    table::report(text, table, scratch, buffer).into()
 }
 
 // What writing answers as it crosses.
-fn written_out(answer: Writing) -> ForeignWritten
-    ensures { result ≡ foreign_written answer }
-{
-    match answer {
-        Writing::Written(bytes) => ForeignWritten {
-            refusal: ForeignRefusal {
-                number: 0,
-                place: 0,
+impl From<Result<usize, Refusal>> for ForeignWritten {
+    ghost from_gives = { λ answer foreign. foreign ≡ foreign_written answer };
+
+    fn from(answer: Result<usize, Refusal>) -> ForeignWritten {
+        match answer {
+            Ok(bytes) => ForeignWritten {
+                refusal: ACCEPTED,
+                length: bytes,
             },
-            length: bytes,
-        },
-        Writing::Refused(refusal) => ForeignWritten {
-            refusal: refusal_out(refusal),
-            length: 0,
-        },
+            Err(refusal) => ForeignWritten {
+                refusal: refusal.into(),
+                length: 0,
+            },
+        }
     }
 }
 
@@ -162,6 +157,5 @@ pub extern "C" fn danivomel_write(text: &[u8], table: &[Range], buffer: &mut [u8
     ensures value { result ≡ foreign_written (write_text text.now (lows_in table.now) (highs_in table.now) buffer.old).answer }
     ensures buffer_after { buffer.new ≡ (write_text text.now (lows_in table.now) (highs_in table.now) buffer.old).buffer }
 {
-    let answer = table::write(text, table, buffer);
-    written_out(answer)
+    table::write(text, table, buffer).into()
 }

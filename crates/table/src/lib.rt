@@ -10,11 +10,10 @@ ghost use Rattle.writer.specs.Calls.{written_text, write_text};
 ghost use Rattle.table.specs.Tables.{lows_in, highs_in};
 ghost use Rattle.table.specs.Inner.Tables.{bounds_of, over, ranges, after_settling, after_reporting, buffer_after, after_reading, after_writing};
 
-use job::Reading;
-use model::MOST_UNITS;
-use report::Reporting;
-use works::Settling;
-use writer::Writing;
+use job::Counts;
+use model::{MOST_UNITS, Refusal};
+use report::Written;
+use works::Unsettled;
 
 // The range of a unit.
 #[repr(C)]
@@ -32,29 +31,16 @@ struct Bounds {
     count: usize,
 }
 
-// A job has at most 256 units, so no more entries are looked at.
-fn capped(entries: usize) -> usize
-    ensures { result ≡ min entries most_units }
-{
-    if entries < MOST_UNITS {
-        return entries;
-    }
-    MOST_UNITS
-}
-
-// The bounds of a table.
+// The bounds of a table; a job has at most 256 units, so no more entries are looked at.
 fn take_bounds(table: &[Range]) -> Bounds
     ensures { result ≡ bounds_of table.now }
 {
     let mut lows = [0u64; MOST_UNITS];
     let mut highs = [0u64; MOST_UNITS];
-    let count = capped(table.len());
-    let mut i: usize = 0;
-    while i < count {
-        let entry = table[i];
+    let count = table.len().min(MOST_UNITS);
+    for (i, entry) in table[..count].iter().enumerate() {
         lows[i] = entry.low;
         highs[i] = entry.high;
-        i = i + 1;
     }
     Bounds { lows, highs, count }
 }
@@ -64,28 +50,20 @@ fn put_bounds(table: &mut [Range], bounds: Bounds)
     requires { bounds.count ≤ min (length table.old) most_units }
     ensures { table.new ≡ over bounds.count (ranges bounds.lows bounds.highs) table.old }
 {
-    let lows = bounds.lows;
-    let highs = bounds.highs;
-    let count = bounds.count;
-    let mut i: usize = 0;
-    while i < count {
+    for i in 0..bounds.count {
         table[i] = Range {
-            low: lows[i],
-            high: highs[i],
+            low: bounds.lows[i],
+            high: bounds.highs[i],
         };
-        i = i + 1;
     }
 }
 
-// What settling over bounds hands back: the bounds after it, and its answer.
-#[derive(Clone, Copy)]
-struct SettledBounds {
+// Settles a job text over bounds: hands back the bounds after it, and its answer.
+fn settle_bounds(
+    text: &[u8],
     bounds: Bounds,
-    answer: Settling,
-}
-
-// Settles a job text over bounds.
-fn settle_bounds(text: &[u8], bounds: Bounds, scratch: &mut [u64]) -> SettledBounds
+    scratch: &mut [u64],
+) -> (Bounds, Result<u64, Unsettled>)
     requires { bounds.count ≤ most_units }
     ensures { result ≡ after_settling text.now bounds (length scratch.old) }
 {
@@ -94,36 +72,25 @@ fn settle_bounds(text: &[u8], bounds: Bounds, scratch: &mut [u64]) -> SettledBou
     let count = bounds.count;
     let answer = settling::calls::settle(text, &mut lows[..count], &mut highs[..count], scratch);
     let after = Bounds { lows, highs, count };
-    SettledBounds {
-        bounds: after,
-        answer,
-    }
+    (after, answer)
 }
 
 // Settles a job text over a table, as settling::calls::settle does over its lows and highs.
-pub fn settle(text: &[u8], table: &mut [Range], scratch: &mut [u64]) -> Settling
+pub fn settle(text: &[u8], table: &mut [Range], scratch: &mut [u64]) -> Result<u64, Unsettled>
     ensures { settlement result (lows_in table.new) (highs_in table.new) ≡ settle_text text.now (lows_in table.old) (highs_in table.old) (length scratch.old) }
 {
-    let before = take_bounds(table);
-    let settled = settle_bounds(text, before, scratch);
-    put_bounds(table, settled.bounds);
-    settled.answer
+    let (bounds, answer) = settle_bounds(text, take_bounds(table), scratch);
+    put_bounds(table, bounds);
+    answer
 }
 
-// What reporting over bounds hands back: the bounds after it, and its answer.
-#[derive(Clone, Copy)]
-struct ReportedBounds {
-    bounds: Bounds,
-    answer: Reporting,
-}
-
-// Settles a job text over bounds and writes the report at the start of the buffer.
+// Settles a job text over bounds and writes the report at the start of the buffer: hands back the bounds after it, and its answer.
 fn report_bounds(
     text: &[u8],
     bounds: Bounds,
     scratch: &mut [u64],
     buffer: &mut [u8],
-) -> ReportedBounds
+) -> (Bounds, Result<Written, Unsettled>)
     requires { bounds.count ≤ most_units }
     ensures { (result ≡ after_reporting text.now bounds (length scratch.old) buffer.old) × (buffer.new ≡ buffer_after text.now bounds (length scratch.old) buffer.old) }
 {
@@ -138,31 +105,25 @@ fn report_bounds(
         buffer,
     );
     let left = Bounds { lows, highs, count };
-    ReportedBounds {
-        bounds: left,
-        answer,
-    }
+    (left, answer)
 }
 
 // Settles a job text over a table and writes its report, as reporting::calls::report does over its lows and highs.
-pub fn report(text: &[u8], table: &mut [Range], scratch: &mut [u64], buffer: &mut [u8]) -> Reporting
+pub fn report(
+    text: &[u8],
+    table: &mut [Range],
+    scratch: &mut [u64],
+    buffer: &mut [u8],
+) -> Result<Written, Unsettled>
     ensures { reported result (lows_in table.new) (highs_in table.new) buffer.new ≡ report_text text.now (lows_in table.old) (highs_in table.old) (length scratch.old) buffer.old }
 {
-    let before = take_bounds(table);
-    let done = report_bounds(text, before, scratch, buffer);
-    put_bounds(table, done.bounds);
-    done.answer
+    let (bounds, answer) = report_bounds(text, take_bounds(table), scratch, buffer);
+    put_bounds(table, bounds);
+    answer
 }
 
-// What reading into bounds hands back: the bounds after it, and its answer.
-#[derive(Clone, Copy)]
-struct ReadBounds {
-    bounds: Bounds,
-    answer: Reading,
-}
-
-// Reads a job text into bounds.
-fn read_bounds(text: &[u8], bounds: Bounds) -> ReadBounds
+// Reads a job text into bounds: hands back the bounds after it, and its answer.
+fn read_bounds(text: &[u8], bounds: Bounds) -> (Bounds, Result<Counts, Refusal>)
     requires { bounds.count ≤ most_units }
     ensures { result ≡ after_reading text.now bounds }
 {
@@ -171,37 +132,30 @@ fn read_bounds(text: &[u8], bounds: Bounds) -> ReadBounds
     let count = bounds.count;
     let answer = job::read(text, &mut lows[..count], &mut highs[..count]);
     let after = Bounds { lows, highs, count };
-    ReadBounds {
-        bounds: after,
-        answer,
-    }
+    (after, answer)
 }
 
 // Reads a job text into a table, as job::read does into its lows and highs.
-pub fn read(text: &[u8], table: &mut [Range]) -> Reading
+pub fn read(text: &[u8], table: &mut [Range]) -> Result<Counts, Refusal>
     ensures { ReadInto text.now (lows_in table.old) (highs_in table.old) (lows_in table.new) (highs_in table.new) result }
 {
-    let before = take_bounds(table);
-    let found = read_bounds(text, before);
-    put_bounds(table, found.bounds);
-    found.answer
+    let (bounds, answer) = read_bounds(text, take_bounds(table));
+    put_bounds(table, bounds);
+    answer
 }
 
 // Writes a job with bounds as a job text at the start of the buffer.
-fn write_bounds(text: &[u8], bounds: Bounds, buffer: &mut [u8]) -> Writing
+fn write_bounds(text: &[u8], bounds: Bounds, buffer: &mut [u8]) -> Result<usize, Refusal>
     requires { bounds.count ≤ most_units }
     ensures { written_text result buffer.new ≡ after_writing text.now bounds buffer.old }
 {
-    let lows = bounds.lows;
-    let highs = bounds.highs;
     let count = bounds.count;
-    writer::calls::write(text, &lows[..count], &highs[..count], buffer)
+    writer::calls::write(text, &bounds.lows[..count], &bounds.highs[..count], buffer)
 }
 
 // Writes a job with a table as a job text, as writer::calls::write does with its lows and highs; the table is only read.
-pub fn write(text: &[u8], table: &[Range], buffer: &mut [u8]) -> Writing
+pub fn write(text: &[u8], table: &[Range], buffer: &mut [u8]) -> Result<usize, Refusal>
     ensures { written_text result buffer.new ≡ write_text text.now (lows_in table.now) (highs_in table.now) buffer.old }
 {
-    let before = take_bounds(table);
-    write_bounds(text, before, buffer)
+    write_bounds(text, take_bounds(table), buffer)
 }

@@ -1,5 +1,5 @@
 -- Levelling and narrowing keep what they promise C and Rust. Assumes nothing.
-use Rattle.std.specs.Prelude.{ℕ, List, ◌≡◌, refl, length}
+use Rattle.std.specs.Prelude.{ℕ, Result, Ok, Err, List, ◌≡◌, refl, length}
 use Rattle.std.proofs.Common.{sym, ap, ◌∙◌, arith}
 use Rattle.levelling.specs.Answers.{LevelFinding}
 use Rattle.group.specs.Answers.{NarrowFinding}
@@ -11,10 +11,8 @@ use Rattle.levelling.specs.Promises.{plan_left}
 use Rattle.group.specs.Promises.{lows_left, highs_left}
 use Rattle.levelling.specs.Laws.Promises.{level_promised, level_unchanged}
 use Rattle.group.specs.Laws.Promises.{narrow_promised, narrow_unchanged}
-use Rattle.levelling.specs.declared.Levelling.{Levelling}
-use Rattle.levelling.specs.declared.Levelling.TheVariants as level
-use Rattle.group.specs.declared.Narrowing.{Narrowing}
-use Rattle.group.specs.declared.Narrowing.TheVariants as narrow
+use Rattle.levelling.specs.declared.Levelled.{Levelled}
+use Rattle.model.specs.declared.Refusal.{Refusal}
 use Rattle.planner.specs.Foreign.{foreign_levelled, foreign_narrowed, foreign_limits}
 use Rattle.planner.specs.declared.ForeignLimits.{ForeignLimits}
 use Rattle.planner.specs.Promises.{ForeignLevelPromise, ForeignNarrowPromise}
@@ -24,18 +22,18 @@ pub foreign_level_promised : (lows highs marks : List ℕ) (total : ℕ) (plan :
     → ForeignLevelPromise lows highs marks total plan (foreign_levelled (levelling lows highs marks total (length plan))) (plan_left lows highs marks total plan)
 foreign_level_promised lows highs marks total plan = by_answer (levelling lows highs marks total (length plan)) refl
   where
-    given_by : {answer words : Levelling} → levelling lows highs marks total (length plan) ≡ answer
+    given_by : {answer words : Result Levelled Refusal} → levelling lows highs marks total (length plan) ≡ answer
         → LevelFinding lows highs marks total (length plan) words → foreign_levelled answer ≡ foreign_levelled words
     given_by is finding = ap foreign_levelled (sym is ∙ (level_exactly lows highs marks total (length plan) _).1 finding)
 
-    by_answer : (answer : Levelling) → levelling lows highs marks total (length plan) ≡ answer
+    by_answer : (answer : Result Levelled Refusal) → levelling lows highs marks total (length plan) ≡ answer
         → ForeignLevelPromise lows highs marks total plan (foreign_levelled answer) (plan_left lows highs marks total plan)
-    by_answer (level.Levelled v figures) is = record {
+    by_answer (Ok found) is = record {
       accepted = λ none. level_promised lows highs marks total plan is;
       refused = λ some. absurd (omega arith);
       given = given_by is;
     }
-    by_answer (level.Refused refused) is =
+    by_answer (Err refused) is =
         let finding = (level_exactly lows highs marks total (length plan) _).0 is in
         record {
           accepted = λ none. absurd (omega (arith, level_between (level_number finding)));
@@ -49,19 +47,19 @@ pub foreign_narrow_promised : (lows highs marks : List ℕ) (total : ℕ) (limit
     (lows_left lows highs marks total (foreign_limits limits)) (highs_left lows highs marks total (foreign_limits limits))
 foreign_narrow_promised lows highs marks total limits = by_answer (narrowing lows highs marks total (foreign_limits limits)) refl
   where
-    given_by : {answer words : Narrowing} → narrowing lows highs marks total (foreign_limits limits) ≡ answer
+    given_by : {answer words : Result (Unit {0}) Refusal} → narrowing lows highs marks total (foreign_limits limits) ≡ answer
         → NarrowFinding lows highs marks total (foreign_limits limits) words → foreign_narrowed answer ≡ foreign_narrowed words
     given_by is finding = ap foreign_narrowed (sym is ∙ (narrow_exactly lows highs marks total (foreign_limits limits) _).1 finding)
 
-    by_answer : (answer : Narrowing) → narrowing lows highs marks total (foreign_limits limits) ≡ answer
+    by_answer : (answer : Result (Unit {0}) Refusal) → narrowing lows highs marks total (foreign_limits limits) ≡ answer
         → ForeignNarrowPromise lows highs marks total limits (foreign_narrowed answer)
         (lows_left lows highs marks total (foreign_limits limits)) (highs_left lows highs marks total (foreign_limits limits))
-    by_answer narrow.Narrowed is = record {
+    by_answer (Ok tt) is = record {
       accepted = λ none. narrow_promised lows highs marks total (foreign_limits limits) is;
       refused = λ some. absurd (omega arith);
       given = given_by is;
     }
-    by_answer (narrow.Refused refused) is =
+    by_answer (Err refused) is =
         let finding = (narrow_exactly lows highs marks total (foreign_limits limits) _).0 is in
         record {
           accepted = λ none. absurd (omega (arith, narrow_between (narrow_number finding)));

@@ -1,6 +1,6 @@
 -- A job has at most 256 units: settling, reporting, reading and writing look at the first 256 entries of a table alone. Assumes nothing.
 use Prim.Native.Nat.{ℕ, zero, suc, ◌*◌, ◌≤◌, min}
-use Rattle.std.specs.Prelude.{Bool, true, false, ◌&&◌, ◌≡◌, leb, length}
+use Rattle.std.specs.Prelude.{Result, Ok, Err, Bool, true, false, ◌&&◌, ◌≡◌, leb, length}
 use Rattle.std.proofs.Math.Path.{refl, ap}
 use Rattle.std.proofs.Common.{sym, ◌∙◌, le_of_suc-le-suc, not-suc-le-zero, arith, le-leb, length-take}
 use mathlib.Core.List.{List, [], ◌∷◌, ◌++◌, append_assoc, append-nil}
@@ -10,8 +10,6 @@ use Rattle.std.proofs.lemmas.Bool.{lt-leb}
 use Rattle.std.proofs.Math.ListN.{take, drop, take-append-drop}
 use Rattle.std.proofs.lemmas.List.{length-map}
 use Rattle.std.proofs.Math.Seq.{take-take}
-use Rattle.list_checks.specs.declared.Check.{Check}
-use Rattle.list_checks.specs.declared.Check.TheVariants.{Passed, Failed}
 use Rattle.job.specs.Job.{Job, JobOrRefusal, accepted, refused, read_job}
 use Rattle.form.specs.Form.{most_bytes}
 use Rattle.job.specs.Reading.{read_table, fit_table, lows_after, highs_after, ReadInto, reading_of}
@@ -19,20 +17,19 @@ use Rattle.job.proofs.Laws.Sound.{accepted_sound}
 use Rattle.model.specs.Groups.{Group}
 use Rattle.model.specs.Shares.{pick, most_units}
 use Rattle.report.specs.Calls.{Reported, reported, job_of, report_by, report_settled, report_text}
-use Rattle.report.specs.declared.Reporting.TheVariants as reporting
+use Rattle.report.specs.declared.Written.{Written}
+use Rattle.job.specs.declared.Counts.{Counts}
+use Rattle.model.specs.declared.Refusal.{Refusal}
 use Rattle.works.specs.Answers.{answer_of, table_after}
 use Rattle.works.specs.Calls.{Settlement, settlement, check_table, settled_after, leaving, settle_job, settle_text}
 use Rattle.works.specs.Resting.{running_groups}
 use Rattle.works.specs.Settling as works
 use Rattle.member_ranges.specs.Tables.{Table, table_of}
-use Rattle.works.specs.declared.Settling.{Settling}
-use Rattle.works.specs.declared.Settling.TheVariants as settling
+use Rattle.works.specs.declared.Unsettled.{Unsettled}
+use Rattle.works.specs.declared.Unsettled.TheVariants.{NoPlan, Refused}
 use Rattle.writer.specs.Calls.{write_over, write_text}
 use Rattle.table.specs.declared.Bounds.{Bounds}
 use Rattle.table.specs.declared.Range.{Range}
-use Rattle.table.specs.declared.ReadBounds.{ReadBounds}
-use Rattle.table.specs.declared.ReportedBounds.{ReportedBounds}
-use Rattle.table.specs.declared.SettledBounds.{SettledBounds}
 use Rattle.table.specs.Tables.{lows_in, highs_in}
 use Rattle.table.specs.Inner.Tables.{over, ranges, bounds_of, after_settling, after_reporting, buffer_after, after_reading, after_writing}
 use Rattle.table.proofs.Laws.Lists.{bounds_hold, front_length, put_table}
@@ -93,10 +90,10 @@ module _ (m : ℕ) (lows highs : List ℕ) where
   abbrev longer : Settlement → Settlement
   longer s = settlement s.answer (s.lows ++ drop m lows) (s.highs ++ drop m highs)
 
-  after_front : (check : Check) (outcome : works.Outcome) (units : ℕ) → units ≤ m
+  after_front : (check : Result (Unit {0}) Refusal) (outcome : works.Outcome) (units : ℕ) → units ≤ m
       → longer (settled_after check (take m lows) (take m highs) (leaving outcome units (take m lows) (take m highs))) ≡ settled_after check lows highs (leaving outcome units lows highs)
-  after_front (Failed refusal) outcome units h = rw (take-append-drop m lows, take-append-drop m highs) refl
-  after_front Passed outcome units h = λ i.
+  after_front (Err refusal) outcome units h = rw (take-append-drop m lows, take-append-drop m highs) refl
+  after_front (Ok tt) outcome units h = λ i.
       let left : Table = table_after outcome (table_of (take-take units m lows h i) (take-take units m highs h i)) in
       settlement (answer_of outcome) (write_front units m left.lows lows h i) (write_front units m left.highs highs h i)
 
@@ -124,11 +121,11 @@ module _ (m : ℕ) (lows highs : List ℕ) where
   abbrev wider : Reported → Reported
   wider r = reported r.answer (r.lows ++ drop m lows) (r.highs ++ drop m highs) r.buffer
 
-  by_front : (marks : List ℕ) (groups : List Group) (units : ℕ) (answer : Settling) (ls hs buffer : List ℕ) → units ≤ m → let r : Reported = report_by marks groups units answer ls hs buffer in
+  by_front : (marks : List ℕ) (groups : List Group) (units : ℕ) (answer : Result ℕ Unsettled) (ls hs buffer : List ℕ) → units ≤ m → let r : Reported = report_by marks groups units answer ls hs buffer in
       length r.lows ≡ length (take m lows) → length r.highs ≡ length (take m highs) → wider r ≡ report_by marks groups units answer (ls ++ drop m lows) (hs ++ drop m highs) buffer
-  by_front marks groups units (settling.Settled passes) ls hs buffer h p q = rw (take_front units m ls lows h p, take_front units m hs highs h q) refl
-  by_front marks groups units (settling.NoPlan number place passes) ls hs buffer h p q = refl
-  by_front marks groups units (settling.Refused refusal) ls hs buffer h p q = refl
+  by_front marks groups units (Ok passes) ls hs buffer h p q = rw (take_front units m ls lows h p, take_front units m hs highs h q) refl
+  by_front marks groups units (Err (NoPlan number place passes)) ls hs buffer h p q = refl
+  by_front marks groups units (Err (Refused refusal)) ls hs buffer h p q = refl
 
   -- reporting a text looks at the first m entries alone, if it leaves as many
   report_front : (text : List ℕ) (scratch : ℕ) (buffer : List ℕ) → FewIn m (read_job text) → let r : Reported = report_text text (take m lows) (take m highs) scratch buffer in
@@ -144,7 +141,7 @@ module _ (m : ℕ) (lows highs : List ℕ) where
       few_found (refused r) few = omega arith
 
       short : List ℕ → List ℕ → Reported
-      short ls hs = reported (reporting.Refused (refusal 1 0)) ls hs buffer
+      short ls hs = reported (Err (Refused (refusal 1 0))) ls hs buffer
 
       settled : List ℕ → List ℕ → Reported
       settled ls hs = report_settled found.marks found.groups (length found.lows) (settle_text text ls hs scratch) buffer
@@ -190,9 +187,9 @@ put_back c t = over c.count (ranges c.lows c.highs) t
 
 module _ (text : List ℕ) (t : List Range) where
   -- settling over a table's bounds is settling over its lows and highs
-  pub settled_table_lem : (scratch : ℕ) → let r : SettledBounds = after_settling text (bounds_of t) scratch in
-      length r.bounds.lows ≡ most_units → length r.bounds.highs ≡ most_units
-      → settlement r.answer (lows_in (put_back r.bounds t)) (highs_in (put_back r.bounds t)) ≡ settle_text text (lows_in t) (highs_in t) scratch
+  pub settled_table_lem : (scratch : ℕ) → let r : Bounds × Result ℕ Unsettled = after_settling text (bounds_of t) scratch in
+      length r.0.lows ≡ most_units → length r.0.highs ≡ most_units
+      → settlement r.1 (lows_in (put_back r.0 t)) (highs_in (put_back r.0 t)) ≡ settle_text text (lows_in t) (highs_in t) scratch
   settled_table_lem scratch p q =
       let n : ℕ = min (length t) most_units in
       let s : Settlement = settle_text text (take n (bounds_of t).lows) (take n (bounds_of t).highs) scratch in
@@ -202,9 +199,9 @@ module _ (text : List ℕ) (t : List Range) where
       ∙ text_front most_units (lows_in t) (highs_in t) text scratch (few_units text)
 
   -- reporting over a table's bounds is reporting over its lows and highs
-  pub reported_table : (scratch : ℕ) (buffer : List ℕ) → let r : ReportedBounds = after_reporting text (bounds_of t) scratch buffer in
-      length r.bounds.lows ≡ most_units → length r.bounds.highs ≡ most_units
-      → reported r.answer (lows_in (put_back r.bounds t)) (highs_in (put_back r.bounds t)) (buffer_after text (bounds_of t) scratch buffer) ≡ report_text text (lows_in t) (highs_in t) scratch buffer
+  pub reported_table : (scratch : ℕ) (buffer : List ℕ) → let r : Bounds × Result Written Unsettled = after_reporting text (bounds_of t) scratch buffer in
+      length r.0.lows ≡ most_units → length r.0.highs ≡ most_units
+      → reported r.1 (lows_in (put_back r.0 t)) (highs_in (put_back r.0 t)) (buffer_after text (bounds_of t) scratch buffer) ≡ report_text text (lows_in t) (highs_in t) scratch buffer
   reported_table scratch buffer p q =
       let n : ℕ = min (length t) most_units in
       let s : Reported = report_text text (take n (bounds_of t).lows) (take n (bounds_of t).highs) scratch buffer in
@@ -218,9 +215,9 @@ module _ (text : List ℕ) (t : List Range) where
       (ap (λ (z : Reported). length z.highs) (sym held) ∙ front_length (λ r. r.high) t s.highs q ∙ sym (rw (length-take, length-map) (omega arith)))
 
   -- reading into a table's bounds is reading into its lows and highs
-  pub read_table_lem : let r : ReadBounds = after_reading text (bounds_of t) in
-      length r.bounds.lows ≡ most_units → length r.bounds.highs ≡ most_units
-      → ReadInto text (lows_in t) (highs_in t) (lows_in (put_back r.bounds t)) (highs_in (put_back r.bounds t)) r.answer
+  pub read_table_lem : let r : Bounds × Result Counts Refusal = after_reading text (bounds_of t) in
+      length r.0.lows ≡ most_units → length r.0.highs ≡ most_units
+      → ReadInto text (lows_in t) (highs_in t) (lows_in (put_back r.0 t)) (highs_in (put_back r.0 t)) r.1
   unfolding read_table
   read_table_lem p q =
       let lows : List ℕ = take (bounds_of t).count (bounds_of t).lows in

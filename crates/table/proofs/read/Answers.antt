@@ -7,8 +7,8 @@ use Rattle.table.proofs.read.Goals as goal
 
 pub returns : goal.returns
 returns c =
-    let found : c.read_bounds-found.result ≡ after_reading c.args.text.now (bounds_of c.args.table.now) =
-    rw c.take_bounds-before.ensures at c.read_bounds-found.ensures in
-    let lows : length c.read_bounds-found.result.bounds.lows ≡ most_units = omega arith in
-    let highs : length c.read_bounds-found.result.bounds.highs ≡ most_units = omega arith in
+    let found : c.read_bounds-answer.result ≡ after_reading c.args.text.now (bounds_of c.args.table.now) =
+    rw c.take_bounds.ensures at c.read_bounds-answer.ensures in
+    let lows : length c.read_bounds-answer.result.0.lows ≡ most_units = omega arith in
+    let highs : length c.read_bounds-answer.result.0.highs ≡ most_units = omega arith in
     rw (c.put_bounds.ensures, found) (read_table_lem c.args.text.now c.args.table.now (rw found at lows) (rw found at highs))

@@ -1,11 +1,12 @@
 -- A table of ranges from two lists of numbers, and after each call. Assumes nothing.
-use Rattle.std.specs.Prelude.{ℕ, zero, suc, min, List, [], ◌∷◌, ◌++◌, length, take, drop, replicate}
+use Rattle.std.specs.Prelude.{ℕ, Result, zero, suc, min, List, [], ◌∷◌, ◌++◌, length, take, drop, replicate}
 use Rattle.model.specs.Shares.{most_units}
 use Rattle.table.specs.declared.Range.{Range}
 use Rattle.table.specs.declared.Bounds.{Bounds}
-use Rattle.table.specs.declared.SettledBounds.{SettledBounds}
-use Rattle.table.specs.declared.ReportedBounds.{ReportedBounds}
-use Rattle.table.specs.declared.ReadBounds.{ReadBounds}
+use Rattle.job.specs.declared.Counts.{Counts}
+use Rattle.model.specs.declared.Refusal.{Refusal}
+use Rattle.report.specs.declared.Written.{Written}
+use Rattle.works.specs.declared.Unsettled.{Unsettled}
 use Rattle.job.specs.Job.{JobOrRefusal}
 use Rattle.job.specs.Reading.{reading_of, read_table, lows_after, highs_after}
 use Rattle.report.specs.Calls.{Reported, report_text}
@@ -39,37 +40,30 @@ bounds_of t = record {
 }
 
 -- what settling a text over bounds hands back, with a scratch of so many numbers
-abbrev pub after_settling : List ℕ → Bounds → ℕ → SettledBounds
+abbrev pub after_settling : List ℕ → Bounds → ℕ → Bounds × Result ℕ Unsettled
 after_settling text c scratch =
     let s : Settlement = settle_text text (take c.count c.lows) (take c.count c.highs) scratch in
-    record {
-      bounds = record { lows = s.lows ++ drop c.count c.lows; highs = s.highs ++ drop c.count c.highs; count = c.count };
-      answer = s.answer;
-    }
+    (record { lows = s.lows ++ drop c.count c.lows; highs = s.highs ++ drop c.count c.highs; count = c.count }, s.answer)
 
 -- what reporting a text over bounds hands back, with a scratch of so many numbers
-abbrev pub after_reporting : List ℕ → Bounds → ℕ → List ℕ → ReportedBounds
+abbrev pub after_reporting : List ℕ → Bounds → ℕ → List ℕ → Bounds × Result Written Unsettled
 after_reporting text c scratch buffer =
     let s : Reported = report_text text (take c.count c.lows) (take c.count c.highs) scratch buffer in
-    record {
-      bounds = record { lows = s.lows ++ drop c.count c.lows; highs = s.highs ++ drop c.count c.highs; count = c.count };
-      answer = s.answer;
-    }
+    (record { lows = s.lows ++ drop c.count c.lows; highs = s.highs ++ drop c.count c.highs; count = c.count }, s.answer)
 
 -- and the buffer after it
 abbrev pub buffer_after : List ℕ → Bounds → ℕ → List ℕ → List ℕ
 buffer_after text c scratch buffer = (report_text text (take c.count c.lows) (take c.count c.highs) scratch buffer).buffer
 
 -- what reading a text into bounds hands back
-abbrev pub after_reading : List ℕ → Bounds → ReadBounds
+abbrev pub after_reading : List ℕ → Bounds → Bounds × Result Counts Refusal
 after_reading text c =
     let lows : List ℕ = take c.count c.lows in
     let highs : List ℕ = take c.count c.highs in
-    let found : JobOrRefusal = read_table text (length lows) (length highs) in
-    record {
-      bounds = record { lows = lows_after found lows ++ drop c.count c.lows; highs = highs_after found highs ++ drop c.count c.highs; count = c.count };
-      answer = reading_of found;
-    }
+    let found : JobOrRefusal = read_table text (length lows) (length highs) in (
+      record { lows = lows_after found lows ++ drop c.count c.lows; highs = highs_after found highs ++ drop c.count c.highs; count = c.count },
+      reading_of found,
+    )
 
 -- what writing a text's job with bounds answers, and the buffer after it
 abbrev pub after_writing : List ℕ → Bounds → List ℕ → WrittenText
