@@ -7,13 +7,6 @@ ghost use Rattle.console.specs.Inner.Inputs.{bytes_read, IsRead};
 use std::io;
 use std::io::{Read, Write};
 
-// What reading the input gives: the count of its bytes, or a failed read.
-#[derive(Clone, Copy)]
-pub enum Input {
-    Read(usize),
-    Failed,
-}
-
 // One byte more than a job text may have, so that a longer one is refused.
 pub fn job_text() -> [u8; 65537]
     ensures { 65537 ≡ length result }
@@ -45,29 +38,30 @@ fn fail<E: Write>(errors: &mut E, what: &[u8], error: &io::Error) -> io::Result<
     errors.write_all(b"\n")
 }
 
-// Reads an input to its end, or until the list is full. A read that fails after others fails them all: a job cut
-// short at a line's end would pass for a whole one. It is said on standard error, with what the caller names.
+// Reads an input to its end, or until the list is full, and hands back the count of its bytes. A read that fails after
+// others fails them all: a job cut short at a line's end would pass for a whole one. It is said on standard error, with
+// what the caller names, and None is handed back.
 pub fn read_input<R: Read, E: Write>(
     input: &mut R,
     errors: &mut E,
     text: &mut [u8],
     what: &[u8],
-) -> Input
+) -> Option<usize>
     ensures within { bytes_read result ≤ length text.new }
     ensures whole { IsRead (R.remaining input.old) (R.remaining input.new) result text.new }
 {
     let mut count: usize = 0;
     while count < text.len() {
         match input.read(&mut text[count..]) {
-            Ok(0) => return Input::Read(count),
+            Ok(0) => return Some(count),
             Ok(more) => count += more,
             Err(error) => {
                 let _ = fail(errors, what, &error);
-                return Input::Failed;
+                return None;
             }
         }
     }
-    Input::Read(count)
+    Some(count)
 }
 
 // Writes bytes to an output; a write that fails is said on standard error, with what the caller names.

@@ -2,9 +2,11 @@
 // fails, it writes one line to standard error.
 #![tactic(auto)]
 
-use console::{Input, job_text, read_input, write_output};
+use console::{job_text, read_input, write_output};
+use job::MOST_BYTES;
 use reporting::program::print_job;
 
+// The main of hand_on is alike but for the call and the words: a shared one would be no plainer.
 fn main(rt: HostRuntime) {
     let mut errors = rt.stderr();
     let mut text = job_text();
@@ -14,10 +16,10 @@ fn main(rt: HostRuntime) {
         &mut text,
         b"settle: standard input",
     );
-    let Input::Read(count) = read else {
+    let Some(count) = read else {
         return;
     };
-    let mut buffer = [0u8; 65536];
+    let mut buffer = [0u8; MOST_BYTES];
     let length = print_job(&text[..count], &mut buffer);
     write_output(
         &mut rt.stdout(),
