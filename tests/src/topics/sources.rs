@@ -24,8 +24,8 @@ fn times(topic: &mut Topic, file: &str, code: &str, words: &str, expected: usize
 }
 
 /// A count can only be begun by lending a number of one's own. In levels none is lent: the four parameters are all that is
-/// lent there, one place raises it, and one loop adds up shares moved to a level. Above levels one count is begun and lent
-/// once, to the one call that finds the level.
+/// lent there, one place raises it, and one loop goes over the members and adds up shares moved to a level; the other one
+/// bisects. Above levels there is no loop and no chain, and one count is begun and lent once, to the one call that finds the level.
 fn one_count(topic: &mut Topic) {
     let levels = code("levels");
     times(topic, "levels", &levels, "fn ", 4);
@@ -34,7 +34,11 @@ fn one_count(topic: &mut Topic) {
     times(topic, "levels", &levels, "*additions", 1);
     times(topic, "levels", &levels, "*additions += 1;", 1);
     times(topic, "levels", &levels, "clamp(", 1);
-    times(topic, "levels", &levels, "while ", 2);
+    times(topic, "levels", &levels, "for ", 1);
+    times(topic, "levels", &levels, ".iter()", 1);
+    times(topic, "levels", &levels, "while ", 1);
+    times(topic, "levels", &levels, ".sum(", 0);
+    times(topic, "levels", &levels, ".fold(", 0);
     let lib = code("lib");
     times(topic, "lib", &lib, "let mut additions: u64 = 0;", 1);
     times(topic, "lib", &lib, "&mut additions", 1);
@@ -42,7 +46,11 @@ fn one_count(topic: &mut Topic) {
     times(topic, "lib", &lib, "find_level(", 1);
     times(topic, "lib", &lib, "fn share_out(", 1);
     times(topic, "lib", &lib, "share_out(", 2);
+    times(topic, "lib", &lib, "for ", 0);
     times(topic, "lib", &lib, "while ", 0);
+    times(topic, "lib", &lib, ".iter()", 0);
+    times(topic, "lib", &lib, ".sum(", 0);
+    times(topic, "lib", &lib, ".fold(", 0);
 }
 
 /// The names in a text: runs of letters, digits, - and _.

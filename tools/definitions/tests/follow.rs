@@ -79,7 +79,7 @@ fn names(tree: &Tree, reached: &Reached, kind: Kind) -> Vec<String> {
     lines.map(|line| line.split_whitespace().nth(2).unwrap().to_string()).collect()
 }
 
-/// In the crates, `checked` leads to `pick` and `greatest_share`, and to two types.
+/// In the crates, `checked` leads to `pick` and `greatest_share`, and to a type.
 #[test]
 fn checked_share() {
     let root = Path::new(env!("CARGO_MANIFEST_DIR")).join("../..");
@@ -88,7 +88,7 @@ fn checked_share() {
     reached.follow(&tree, &promised(&tree, "`checked` of model/specs/Shares.antt")).unwrap();
     assert_eq!(names(&tree, &reached, Kind::Definition), ["pick", "greatest_share", "checked"]);
     assert_eq!(count(&tree, &reached, Kind::Definition), Count { declarations: 3, lines: 9, files: 1 });
-    assert_eq!(names(&tree, &reached, Kind::Type), ["Share", "Checked"]);
+    assert_eq!(names(&tree, &reached, Kind::Type), ["Share"]);
 }
 
 #[test]
