@@ -113,6 +113,7 @@ fn narrow_in<const MEMBERS: usize, const ROOM: usize>(
 }
 
 // The same for every group: the room goes by its size, and each size of it has an instance of its own.
+// The second number is 14 for each member and 7 more: the room of the breakpoint table.
 fn narrow_sized(lows: &mut [u64], highs: &mut [u64], question: Question) -> bool
     requires { HasShares lows.old highs.old question.total }
     ensures { NarrowedIf lows.old highs.old question.total question.limits result lows.new highs.new }

@@ -12,6 +12,7 @@ use crate::pinned::Trial;
 use crate::terms::{MOST_PAIRS, Terms};
 use breakpoints::distances::{Distances, row_of};
 use breakpoints::rows::read_row;
+use model::MOST_UNITS;
 use model::levels::growth;
 
 // A level with copies left over, and the row below it.
@@ -89,17 +90,17 @@ pub fn pair_step(table: &[u64], last: usize, trial: Trial, spot: LevelSpot, much
     let there = read_row(table, beside);
     let moving = row.lows.saturating_sub(row.highs);
     let own = growth(trial.low, trial.high, row.mark);
-    let growing = moving.saturating_sub(own).clamp(1, 256);
+    let growing = moving.saturating_sub(own).clamp(1, MOST_UNITS as u64);
     let over = spot.over.min(growing);
     let most = much.min(MOST_PAIRS);
     if spot.level < trial.value {
         let passed = there.lows.saturating_sub(row.lows);
         let own_low = u64::from(spot.level < trial.low);
-        let between = passed.saturating_sub(own_low).min(256);
+        let between = passed.saturating_sub(own_low).min(MOST_UNITS as u64);
         return turns(2 * between + 1, growing, over, most);
     }
     let passed = row.highs.saturating_sub(there.highs);
     let own_high = u64::from(trial.value < trial.high && trial.high <= spot.level);
-    let between = passed.saturating_sub(own_high).min(256);
+    let between = passed.saturating_sub(own_high).min(MOST_UNITS as u64);
     turns(2 * between + 1, growing, (growing - over) % growing, most)
 }

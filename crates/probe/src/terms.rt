@@ -31,7 +31,7 @@ const UNLIMITED: u64 = u64::MAX;
 pub const MOST_PAIRS: u64 = 65_536_000_000;
 
 // A spread limit past this one allows every spread.
-const GREATEST_SPREAD: u64 = 1_000_000_000_000_000_000;
+const MOST_SPREAD: u64 = 1_000_000_000_000_000_000;
 
 // The most that may lie above the mean, of which the deviation is twice as much.
 fn half_of(limit: Limit) -> u64
@@ -52,7 +52,7 @@ fn squares_of(limit: Limit, count: u64, total: u64) -> u64
     let Limit::AtMost(most) = limit else {
         return UNLIMITED;
     };
-    if count == 0 || GREATEST_SPREAD < most {
+    if count == 0 || MOST_SPREAD < most {
         return UNLIMITED;
     }
     (most + total * total) / count
@@ -84,17 +84,14 @@ pub fn terms_of(lows: &[u64], highs: &[u64], table: &[u64], question: Question) 
     let count = lows.len() as u64;
     let total = question.total;
     let limits = question.limits;
-    let deviation = limits.deviation;
-    let spread = limits.spread;
-    let pairs = limits.pairs;
     let sides = both_sides(lows, highs, total);
     Terms {
         count,
         last: last_row(table),
         total,
-        half: half_of(deviation),
-        squares: squares_of(spread, count, total),
-        pairs: pairs_of(pairs),
+        half: half_of(limits.deviation),
+        squares: squares_of(limits.spread, count, total),
+        pairs: pairs_of(limits.pairs),
         above: sides.above,
         below: sides.below,
     }

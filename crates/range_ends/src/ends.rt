@@ -144,10 +144,7 @@ fn inner_row(table: &[u64], terms: Terms, trial: Trial, near: Option<usize>) -> 
     requires last_within { IfSome near (λ row. LastWithin table.now terms.last trial.low trial.high trial.value terms.total row) }
     ensures { LastWithin table.now terms.last trial.low trial.high trial.value terms.total result }
 {
-    match near {
-        Some(row) => row,
-        None => last_within(table, terms.last, trial, terms.total),
-    }
+    near.unwrap_or_else(|| last_within(table, terms.last, trial, terms.total))
 }
 
 // The edge of a gap, with what is known afterwards.
