@@ -1,4 +1,5 @@
-// The groups of a job and the marks of its units as one flat list of numbers: its layout is written and read here alone.
+// The groups of a job and the marks of its units as one flat list of numbers: heads are written and read here, and marks written.
+// Who stores a group's members puts them right behind its head, and who reads the marks finds them from MARKS on.
 #![tactic(auto)]
 
 ghost use Rattle.std.specs.Prelude.{◌+◌, ◌≤◌, ◌<◌, ◌≡◌, length, set};

@@ -6,8 +6,7 @@ ghost use Rattle.model.specs.Shares.{sum, greatest_total, most_units};
 ghost use Rattle.levelling.specs.Inner.Shared.{SoundShares};
 
 use model::differences::sorted_pairs;
-use model::lists::{copy, room};
-use model::numbers::apart;
+use model::lists::room;
 use model::running::{if_running, pack, running_count};
 use model::{Deviation, Figures, Pairs, Spread};
 use sorting::sort;
@@ -29,7 +28,7 @@ fn pairs_of(shares: &[u64], marks: &[u64]) -> u64
 {
     let count = shares.len();
     let mut numbers = room();
-    copy(shares, &mut numbers[..count]);
+    numbers[..count].copy_from_slice(shares);
     let ran = pack(marks, &mut numbers[..count]);
     pairs_among(&mut numbers[..ran])
 }
@@ -43,7 +42,7 @@ pub fn figures_of(shares: &[u64], marks: &[u64], total: u64) -> Figures
     let mut deviation: u64 = 0;
     let mut squares: u64 = 0;
     for (i, share) in shares.iter().enumerate() {
-        deviation += if_running(marks[i], apart(count * *share, total));
+        deviation += if_running(marks[i], (count * *share).abs_diff(total));
         squares += *share * *share;
     }
     Figures {

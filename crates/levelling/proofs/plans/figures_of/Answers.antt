@@ -94,7 +94,7 @@ loop-i-preserved c =
     let here : i < length shares = omega arith in
     let mark : i < length marks = marked _ _ _ c.requires i here in
     let part : c.if_running-deviation.result ≡ pick (runs (get_or marks i 0)) (apart (c.running_count-count.result * get_or shares i 0) c.args.total) 0 =
-    rw (← c.apart.ensures) c.if_running-deviation.ensures in
+    rw (← c.abs_diff.ensures) c.if_running-deviation.ensures in
     (running_step _ marks shares i mark here _ _ part inv.0, summed_step _ marks shares i mark here _ inv.1)
 
 pub overflow_add-deviation : goal.overflow_add-deviation

@@ -15,15 +15,15 @@ use Rattle.levelling.proofs.plans.pairs_of.Goals.{After-pack-ran}
 
 pub pack-ran-requires : goal.pack-ran-requires
 pack-ran-requires c =
-    rw (take_at c.copy.new.to (drop (length c.args.shares.now) c.room-numbers.result) (length c.args.shares.now) (ap length c.copy.ensures) ∙ c.copy.ensures)
+    rw (take_at c.copy_from_slice.new.self (drop (length c.args.shares.now) c.room-numbers.result) (length c.args.shares.now) (ap length c.copy_from_slice.ensures.after) ∙ c.copy_from_slice.ensures.after)
     (marked_length c.requires.marked).0
 
 -- the front of the room held the shares, and the front of what it holds then are the running members' ones
-ran : (c : After-pack-ran) → take c.pack-ran.result (c.pack-ran.new.numbers ++ drop (length c.args.shares.now) (c.copy.new.to ++ drop (length c.args.shares.now) c.room-numbers.result))
+ran : (c : After-pack-ran) → take c.pack-ran.result (c.pack-ran.new.numbers ++ drop (length c.args.shares.now) (c.copy_from_slice.new.self ++ drop (length c.args.shares.now) c.room-numbers.result))
     ≡ running c.args.marks.now c.args.shares.now
 ran c =
-    let numbers = c.copy.new.to ++ drop (length c.args.shares.now) c.room-numbers.result in
-    let front : take (length c.args.shares.now) numbers ≡ c.args.shares.now = take_at _ _ _ (ap length c.copy.ensures) ∙ c.copy.ensures in
+    let numbers = c.copy_from_slice.new.self ++ drop (length c.args.shares.now) c.room-numbers.result in
+    let front : take (length c.args.shares.now) numbers ≡ c.args.shares.now = take_at _ _ _ (ap length c.copy_from_slice.ensures.after) ∙ c.copy_from_slice.ensures.after in
     let few : c.pack-ran.result ≤ length c.pack-ran.new.numbers =
     omega (arith, c.pack-ran.ensures.value, running_few c.args.marks.now (take (length c.args.shares.now) numbers), c.pack-ran.auto.numbers) in
     take-append-le _ c.pack-ran.new.numbers _ few ∙ c.pack-ran.ensures.numbers_after ∙ ap (running c.args.marks.now) front
