@@ -22,6 +22,7 @@ pub struct Counts {
     pub groups: usize,
 }
 
+// A job text has at most so many bytes.
 pub const MOST_BYTES: usize = 65_536;
 
 // A refusal that no line causes.
@@ -71,10 +72,7 @@ fn fill(
     ensures { FilledBy least.now greatest.now counts.units counts.groups lows.old highs.old lows.new highs.new result }
 {
     let units = counts.units;
-    if lows.len() < units {
-        return refused(1);
-    }
-    if highs.len() < units {
+    if lows.len() < units || highs.len() < units {
         return refused(1);
     }
     lows[..units].copy_from_slice(&least[..units]);

@@ -40,8 +40,10 @@ impl Progress {
     }
 }
 
+// A job has at most so many groups.
 pub const MOST_GROUPS: usize = 64;
 
+// A job's groups have at most so many members together.
 pub const MOST_MEMBERSHIPS: usize = 4096;
 
 // The refusal of a unit line, if there is one.
@@ -50,10 +52,7 @@ fn unit_verdict(progress: Progress, low: u64, high: u64) -> Result<(), Refusal>
     requires { Bounded progress }
     ensures { result ≡ verdict_answer (unit_verdict progress.units progress.groups (range low high)) (place_at progress) }
 {
-    if Share::new(low).is_none() {
-        return Err(progress.refusal(4));
-    }
-    if Share::new(high).is_none() {
+    if Share::new(low).is_none() || Share::new(high).is_none() {
         return Err(progress.refusal(4));
     }
     if progress.groups != 0 {
@@ -74,23 +73,15 @@ fn head_verdict(progress: Progress, head: Head, count: usize) -> Result<(), Refu
     requires { Bounded progress }
     ensures { result ≡ verdict_answer (head_verdict progress.groups progress.memberships head.total head.limits count) (place_at progress) }
 {
-    if GREATEST_TOTAL < head.total {
-        return Err(progress.refusal(4));
-    }
     let limits = head.limits;
-    if !limits.deviation.within(GREATEST_DEVIATION) {
+    if GREATEST_TOTAL < head.total
+        || !limits.deviation.within(GREATEST_DEVIATION)
+        || !limits.spread.within(GREATEST_SPREAD)
+        || !limits.pairs.within(GREATEST_PAIRS)
+    {
         return Err(progress.refusal(4));
     }
-    if !limits.spread.within(GREATEST_SPREAD) {
-        return Err(progress.refusal(4));
-    }
-    if !limits.pairs.within(GREATEST_PAIRS) {
-        return Err(progress.refusal(4));
-    }
-    if MOST_GROUPS <= progress.groups {
-        return Err(progress.refusal(6));
-    }
-    if MOST_MEMBERSHIPS - progress.memberships < count {
+    if MOST_GROUPS <= progress.groups || MOST_MEMBERSHIPS - progress.memberships < count {
         return Err(progress.refusal(6));
     }
     Ok(())
