@@ -74,15 +74,12 @@ fn level_stored(
     requires most_units_in_bounds { most_units ≤ length plan.old }
     ensures { LevelledIn (marks_in (length lows.now) flat.now) (table_of lows.now highs.now) (group_in flat.now group) result plan.new }
 {
-    let total = group.total;
-    let from = group.from;
-    let end = from + group.count;
-    let marks = MARKS;
-    let behind = marks + lows.len();
+    let end = group.from + group.count;
+    let behind = MARKS + lows.len();
     level_members(
-        &flat[from..end],
-        &flat[marks..behind],
-        total,
+        &flat[group.from..end],
+        &flat[MARKS..behind],
+        group.total,
         lows,
         highs,
         plan,
@@ -101,8 +98,7 @@ pub fn put_group_lines(page: &mut Page, flat: &[u64], groups: u64, lows: &[u64],
     for written in 0..groups {
         let group = group_at(flat, from);
         let levelling = level_stored(flat, group, lows, highs, &mut plan);
-        let count = group.count;
-        put_levelled_line(page, written + 1, levelling, &plan[..count]);
+        put_levelled_line(page, written + 1, levelling, &plan[..group.count]);
         from = group.next;
     }
 }

@@ -10,6 +10,7 @@ use report::answers::print_answer;
 use report::lines::refusal_line;
 
 // Fills a table from a job's unit lines and reports it, by way of lists that hold every job.
+// hand_on_by in writer has another answer alone; one function for both would take a closure and its clauses.
 fn print_by(
     text: &[u8],
     lows: &mut [u64],

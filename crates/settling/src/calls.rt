@@ -22,9 +22,8 @@ pub fn settle_job(
     requires { Prepared flat.now groups units }
     ensures { settlement result lows.new highs.new ≡ settle_job (marks_in units flat.now) (groups_in groups flat.now) units lows.old highs.old (length scratch.old) }
 {
-    let first = MARKS;
-    let behind = first + units;
-    check_table(&flat[first..behind], units, lows, highs, scratch.len())?;
+    let behind = MARKS + units;
+    check_table(&flat[MARKS..behind], units, lows, highs, scratch.len())?;
     settle_core(
         flat,
         groups,

@@ -27,17 +27,14 @@ pub fn take_turn(
     requires member_room { MemberRoom member_lows.old member_highs.old }
     ensures { revised_by result (table_of lows.new highs.new) ≡ revise (table_of lows.old highs.old) (running_group (marks_in (length lows.old) flat.now) (group_in flat.now group)) }
 {
-    let from = group.from;
-    let end = from + group.count;
-    let marks = MARKS;
-    let behind = marks + lows.len();
-    let members = &flat[from..end];
-    let marked = &flat[marks..behind];
+    let end = group.from + group.count;
+    let behind = MARKS + lows.len();
+    let members = &flat[group.from..end];
+    let marked = &flat[MARKS..behind];
     let count = gather_running(members, marked, lows, highs, member_lows, member_highs);
-    let limits = group.limits;
     let question = Question {
         total: group.total,
-        limits,
+        limits: group.limits,
     };
     let turn = narrow_core(
         &mut member_lows[..count],
