@@ -8,6 +8,7 @@ use std::io;
 use std::io::{Read, Write};
 
 // One byte more than a job text may have, so that a longer one is refused.
+// The number is written out, as this crate depends on no other.
 pub fn job_text() -> [u8; 65537]
     ensures { 65537 ≡ length result }
 {

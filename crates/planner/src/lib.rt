@@ -110,7 +110,7 @@ const ACCEPTED: ForeignRefusal = ForeignRefusal {
     place: 0,
 };
 
-// A refusal as it crosses.
+// A refusal as C gets it.
 impl From<Refusal> for ForeignRefusal {
     ghost from_gives = { λ refusal foreign. foreign ≡ foreign_refusal refusal };
 
@@ -122,7 +122,7 @@ impl From<Refusal> for ForeignRefusal {
     }
 }
 
-// A levelling as it crosses.
+// A levelling as C gets it.
 impl From<Result<Levelled, Refusal>> for ForeignLevelled {
     ghost from_gives = { λ answer foreign. foreign ≡ foreign_levelled answer };
 
@@ -167,7 +167,7 @@ pub extern "C" fn danivomel_level(
     group::level(lows, highs, marks, total, plan).into()
 }
 
-// A limit as it came across.
+// A limit as C gives it.
 impl From<ForeignLimit> for Limit {
     ghost from_gives = { λ foreign limit. limit ≡ foreign_limit foreign };
 
@@ -179,7 +179,7 @@ impl From<ForeignLimit> for Limit {
     }
 }
 
-// A group's limits as they came across.
+// A group's limits as C gives them.
 impl From<ForeignLimits> for Limits {
     ghost from_gives = { λ foreign limits. limits ≡ foreign_limits foreign };
 
@@ -192,7 +192,7 @@ impl From<ForeignLimits> for Limits {
     }
 }
 
-// A narrowing as it crosses.
+// A narrowing as C gets it.
 impl From<Result<(), Refusal>> for ForeignRefusal {
     ghost from_gives = { λ answer foreign. foreign ≡ foreign_narrowed answer };
 

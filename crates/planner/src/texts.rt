@@ -14,7 +14,7 @@ use report::Written;
 use table::Range;
 use works::Unsettled;
 
-// A reading as it crosses.
+// A reading as C gets it.
 impl From<Result<Counts, Refusal>> for ForeignRead {
     ghost from_gives = { λ answer foreign. foreign ≡ foreign_read answer };
 
@@ -44,7 +44,7 @@ pub extern "C" fn danivomel_read(text: &[u8], table: &mut [Range]) -> ForeignRea
     table::read(text, table).into()
 }
 
-// A settling as it crosses.
+// A settling as C gets it.
 impl From<Result<u64, Unsettled>> for ForeignSettled {
     ghost from_gives = { λ answer foreign. foreign ≡ foreign_settled answer };
 
@@ -86,7 +86,7 @@ pub extern "C" fn danivomel_settle(
     table::settle(text, table, scratch).into()
 }
 
-// A report's answer as it crosses.
+// A report's answer as C gets it.
 impl From<Result<Written, Unsettled>> for ForeignReport {
     ghost from_gives = { λ answer foreign. foreign ≡ foreign_report answer };
 
@@ -133,7 +133,7 @@ pub extern "C" fn danivomel_report(
     table::report(text, table, scratch, buffer).into()
 }
 
-// What writing answers as it crosses.
+// What writing answers as C gets it.
 impl From<Result<usize, Refusal>> for ForeignWritten {
     ghost from_gives = { λ answer foreign. foreign ≡ foreign_written answer };
 

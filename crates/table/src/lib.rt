@@ -46,6 +46,7 @@ fn take_bounds(table: &[Range]) -> Bounds
 }
 
 // The table with these bounds; entries past the count keep their values.
+// It goes by index: it reads two lists and writes a third.
 fn put_bounds(table: &mut [Range], bounds: Bounds)
     requires { bounds.count ≤ min (length table.old) most_units }
     ensures { table.new ≡ over bounds.count (ranges bounds.lows bounds.highs) table.old }
@@ -104,8 +105,8 @@ fn report_bounds(
         scratch,
         buffer,
     );
-    let left = Bounds { lows, highs, count };
-    (left, answer)
+    let after = Bounds { lows, highs, count };
+    (after, answer)
 }
 
 // Settles a job text over a table and writes its report, as reporting::calls::report does over its lows and highs.
