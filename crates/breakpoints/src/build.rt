@@ -14,6 +14,7 @@ use crate::distances::distances_at;
 use crate::rows::{PairRow, Row, last_row, read_row, write_pair_row, write_row};
 use crate::table::{first_row, next_row};
 use model::differences::sorted_pairs;
+use model::lists::copy;
 use sorting::sort;
 
 // Writes the lows and highs of the members with several values over starts and stops, and hands back how many they are.
@@ -146,8 +147,8 @@ fn build_paired(
     ensures breakpoints { Breakpoints lows.now highs.now table.new }
     ensures paired { Paired lows.now highs.now table.new }
 {
-    starts.copy_from_slice(lows);
-    stops.copy_from_slice(highs);
+    copy(lows, starts);
+    copy(highs, stops);
     build_on(lows, highs, starts, stops, table);
     fill_pairs(lows, highs, starts, table);
 }

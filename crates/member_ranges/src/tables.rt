@@ -3,6 +3,7 @@ ghost use Rattle.std.specs.Prelude.{◌+◌, ◌≤◌, ◌++◌, ◌≡◌, len
 ghost use Rattle.model.specs.Sound.{SoundRanges};
 ghost use Rattle.member_ranges.specs.Tables.{widths};
 
+use model::lists::copy;
 use model::shares::sum_of;
 
 // The sum of high − low.
@@ -21,8 +22,8 @@ pub fn save(lows: &[u64], highs: &[u64], scratch: &mut [u64])
 {
     let middle = lows.len();
     let end = middle + highs.len();
-    scratch[..middle].copy_from_slice(lows);
-    scratch[middle..end].copy_from_slice(highs);
+    copy(lows, &mut scratch[..middle]);
+    copy(highs, &mut scratch[middle..end]);
 }
 
 // Writes the first numbers of a list over a table's lows, and the next ones over its highs.
@@ -33,6 +34,6 @@ pub fn restore(scratch: &[u64], lows: &mut [u64], highs: &mut [u64])
 {
     let middle = lows.len();
     let end = middle + highs.len();
-    lows.copy_from_slice(&scratch[..middle]);
-    highs.copy_from_slice(&scratch[middle..end]);
+    copy(&scratch[..middle], lows);
+    copy(&scratch[middle..end], highs);
 }

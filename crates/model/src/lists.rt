@@ -11,10 +11,13 @@ pub fn room() -> [u64; MOST_UNITS]
     [0; MOST_UNITS]
 }
 
-// Copies a list over another of the same length.
+// Copies a list over another of the same length. It goes by a loop: the library's method needs memmove of whoever links the archive, and
+// takes longer for a few numbers.
 pub fn copy(from: &[u64], to: &mut [u64])
     requires { length to.old ≡ length from.now }
     ensures { to.new ≡ from.now }
 {
-    to.copy_from_slice(from);
+    for (i, x) in from.iter().enumerate() {
+        to[i] = *x;
+    }
 }

@@ -7,6 +7,7 @@ ghost use Rattle.narrow.specs.Inner.Turns.{NarrowedIf, Turned};
 ghost use Rattle.range_ends.specs.Inner.Tabled.{Tabled, TableLists, TableRoom};
 
 use breakpoints::build::build;
+use model::lists::copy;
 use model::shares::has_shares;
 use model::{MOST_UNITS, Question, Turn};
 use probe::probing::level_on;
@@ -66,8 +67,8 @@ fn narrow_with(
     if !planned {
         return false;
     }
-    lows.copy_from_slice(starts);
-    highs.copy_from_slice(stops);
+    copy(starts, lows);
+    copy(stops, highs);
     true
 }
 

@@ -6,7 +6,7 @@ ghost use Rattle.breakpoints.specs.Inner.Rows.{row_at};
 ghost use Rattle.probe.specs.Inner.Probes.{Pinnable, Probeable, LastWithin, IntoReach, Divided, pinned_total};
 
 use breakpoints::rows::{Row, read_row};
-use model::levels::growth;
+use model::levels::{clamp, growth};
 
 // A value to try for a member with this low and high, and a row to look at first. 0 for a member with the range 0 to 0
 // changes no sum: the group itself.
@@ -35,7 +35,7 @@ pub fn pinned_total(row: Row, low: u64, high: u64, v: u64) -> u64
     requires { Pinnable row low high v }
     ensures { result ≡ pinned_total row low high v }
 {
-    row.total + v - row.mark.clamp(low, high)
+    row.total + v - clamp(low, high, row.mark)
 }
 
 // A row strictly between two others: near where it is one, else a step from the one next to near, or halfway where that is too far.

@@ -12,6 +12,7 @@ use crate::pinned::{Trial, last_within, pinned_total, reach_from};
 use crate::sides::pinned_half;
 use crate::terms::{MOST_PAIRS, Terms};
 use breakpoints::rows::read_row;
+use model::numbers::apart;
 use model::{Question, Share};
 
 // What a look at a pinned group finds: half of the deviation and the sum of squares of its levelled shares, and the level
@@ -66,7 +67,7 @@ pub struct Tried {
 fn step_inward(terms: Terms, trial: Trial, pinned: Pinned) -> u64 {
     let squares = pinned.squares.saturating_sub(terms.squares);
     let half = pinned.half.saturating_sub(terms.half);
-    let distance = trial.value.abs_diff(pinned.level);
+    let distance = apart(trial.value, pinned.level);
     newton_step(squares, half, distance, terms.count)
 }
 

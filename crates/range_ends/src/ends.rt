@@ -11,6 +11,7 @@ ghost use Rattle.range_ends.specs.Inner.Known.{SharedHolds, RowOf, EdgeFound, En
 
 use crate::known::{Bracket, Shared, Way, noted};
 use model::Question;
+use model::numbers::apart;
 use probe::pinned::{Trial, into_reach, last_within};
 use probe::probing::{Tried, try_paired, try_value};
 use probe::terms::{MOST_PAIRS, Terms};
@@ -53,7 +54,7 @@ fn next_value(outer: u64, inner: u64, inward: u64, tries: u64) -> u64
     requires { 1 < apart outer inner }
     ensures { Amid outer inner result }
 {
-    let step = step_within(outer.abs_diff(inner), inward, tries);
+    let step = step_within(apart(outer, inner), inward, tries);
     if outer < inner {
         return outer + step;
     }

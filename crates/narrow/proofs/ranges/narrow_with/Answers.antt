@@ -44,19 +44,19 @@ module _ (c : Else-not-planned) where
   in-stops : c.narrow_on-planned.new.stops ≡ narrowed_highs c.args.lows.now c.args.highs.now c.args.question.total c.args.question.limits
   in-stops = if_planned _ _ _ found c.narrow_on-planned.ensures.stops_after
 
-pub copy_from_slice-requires : goal.copy_from_slice-requires
-copy_from_slice-requires c =
-    sym (ap length (in-starts (goal.at.copy_from_slice-requires c).Else-not-planned) ∙ narrowed_lows_length _ _ _ _)
+pub copy-requires : goal.copy-requires
+copy-requires c =
+    sym (ap length (in-starts (goal.at.copy-requires c).Else-not-planned) ∙ narrowed_lows_length _ _ _ _)
 
-pub copy_from_slice-requires-2 : goal.copy_from_slice-requires-2
-copy_from_slice-requires-2 c =
-    c.requires.has_shares.sound.paired ∙ sym (ap length (in-stops (goal.at.copy_from_slice-requires-2 c).Else-not-planned) ∙ narrowed_highs_length _ _ _ _)
+pub copy-requires-2 : goal.copy-requires-2
+copy-requires-2 c =
+    c.requires.has_shares.sound.paired ∙ sym (ap length (in-stops (goal.at.copy-requires-2 c).Else-not-planned) ∙ narrowed_highs_length _ _ _ _)
 
 pub returns : goal.returns
 returns c =
     let m = (goal.at.returns c).Else-not-planned in
     record {
       answer = sym (found m) ∙ c.narrow_on-planned.ensures.value;
-      lows_are = c.copy_from_slice.ensures.after ∙ in-starts m;
-      highs_are = c.copy_from_slice-2.ensures.after ∙ in-stops m;
+      lows_are = c.copy.ensures ∙ in-starts m;
+      highs_are = c.copy-2.ensures ∙ in-stops m;
     }
