@@ -6,6 +6,7 @@ ghost use Rattle.model.specs.Sound.{SoundRanges, HasShares};
 ghost use Rattle.levelling.specs.Inner.Searching.{LevelBetween};
 
 use model::Share;
+use model::levels::clamp;
 
 // The level, and the copies left over there.
 #[derive(Clone, Copy)]
@@ -23,8 +24,9 @@ fn total_at(lows: &[u64], highs: &[u64], v: u64, additions: &mut u64) -> u64
 {
     *additions += 1;
     let mut total: u64 = 0;
-    for (low, high) in lows.iter().zip(highs) {
-        total += v.clamp(*low, *high);
+    // The highs by index: a `zip` of both lists asks each for its end, and makes levelling two members slower by a third.
+    for (i, low) in lows.iter().enumerate() {
+        total += clamp(*low, highs[i], v);
     }
     total
 }

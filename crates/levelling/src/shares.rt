@@ -5,6 +5,7 @@ ghost use Rattle.levelling.specs.Additions.{KnownLevel};
 ghost use Rattle.headroom.specs.Inner.Takers.{HasTakers};
 
 use headroom::{bar_for, one_above, one_at};
+use model::levels::clamp;
 
 // Writes the shares at the level, which has to be known, with the copies left over handed out by headroom, over the first
 // numbers of a plan.
@@ -23,7 +24,7 @@ pub fn fill_plan(lows: &[u64], highs: &[u64], v: u64, left: u64, plan: &mut [u64
         let high = highs[i];
         let at = one_at(*low, high, v, bar, rest);
         let more = one_above(*low, high, v, bar) + at;
-        plan[i] = v.clamp(*low, high) + more;
+        plan[i] = clamp(*low, high, v) + more;
         rest -= at;
     }
 }
