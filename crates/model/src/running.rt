@@ -23,7 +23,12 @@ pub fn if_running(mark: u64, number: u64) -> u64
 pub fn running_count(marks: &[u64]) -> usize
     ensures { result ≡ length (running marks.now marks.now) }
 {
-    marks.iter().filter(|mark| **mark == RUNNING).count()
+    // Added up without a branch: a `filter` has one for each mark, and takes longer in a large group.
+    let mut count: usize = 0;
+    for mark in marks {
+        count += count_of(*mark);
+    }
+    count
 }
 
 // Moves the running members' numbers to the front of a list of all members', and hands back how many they are.
