@@ -6,6 +6,28 @@ ghost use Rattle.text.specs.Numbers.{print_number};
 ghost use Rattle.print.specs.Items.{item, items, form, printed_line};
 ghost use Rattle.print.specs.Inner.Written.{Room, Wrote};
 
+// Writes a byte and hands back the index after it.
+fn put_byte(buffer: &mut [u8], at: usize, byte: u8) -> usize
+    requires { Room buffer.old at (byte ∷ []) }
+    ensures { Wrote (byte ∷ []) buffer.old at buffer.new result }
+{
+    buffer[at] = byte;
+    at + 1
+}
+
+// Writes a number in base ten and hands back the index after it. It calls itself, and so it takes the bytes and the index: a page that is
+// handed to it lies in memory from the start, and makes writing units slower by a quarter.
+fn put_number(buffer: &mut [u8], at: usize, v: u64) -> usize
+    requires { Room buffer.old at (print_number v) }
+    ensures { Wrote (print_number v) buffer.old at buffer.new result }
+{
+    if v < 10 {
+        return put_byte(buffer, at, (48 + v) as u8);
+    }
+    let next = put_number(buffer, at, v / 10);
+    put_byte(buffer, next, (48 + v % 10) as u8)
+}
+
 // A page that is written on: its bytes, and how many of them are written.
 #[derive(Drop)]
 pub struct Page<'a> {
@@ -16,14 +38,12 @@ pub struct Page<'a> {
 // Each method ensures that the page keeps its reference, so that whoever lent the bytes knows what they are afterwards.
 impl<'a> Page<'a> {
     // Writes a byte.
-    #[tactic(auto, unfolding(crate::specs::Inner::Written::written))]
     fn byte(&mut self, byte: u8)
         requires { Room self.old.bytes.now self.old.at (byte ∷ []) }
         ensures wrote { Wrote (byte ∷ []) self.old.bytes.now self.old.at self.new.bytes.now self.new.at }
         ensures same_reference { self.new.bytes.ghost_name ≡ self.old.bytes.ghost_name }
     {
-        self.bytes[self.at] = byte;
-        self.at += 1;
+        self.at = put_byte(self.bytes, self.at, byte);
     }
 
     // Writes a word, given by its bytes.
@@ -44,11 +64,7 @@ impl<'a> Page<'a> {
         ensures wrote { Wrote (print_number v) self.old.bytes.now self.old.at self.new.bytes.now self.new.at }
         ensures same_reference { self.new.bytes.ghost_name ≡ self.old.bytes.ghost_name }
     {
-        if v < 10 {
-            return self.byte((48 + v) as u8);
-        }
-        self.number(v / 10);
-        self.byte((48 + v % 10) as u8);
+        self.at = put_number(self.bytes, self.at, v);
     }
 
     // Writes a space and a number.

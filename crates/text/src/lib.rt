@@ -97,7 +97,8 @@ impl Spot {
         Some(digits_from(text, next, first))
     }
 
-    // Reads a word, given by its bytes, and gives the spot after it.
+    // Reads a word, given by its bytes, and gives the spot after it. It is compiled into its callers, which know the word.
+    #[inline(always)]
     pub fn word(self, text: &[u8], bytes: &[u8]) -> Option<Spot>
         ensures { stepped text.now result ≡ word bytes.now (drop self.at text.now) }
     {
