@@ -105,8 +105,8 @@ fn report_bounds(
         scratch,
         buffer,
     );
-    let after = Bounds { lows, highs, count };
-    (after, answer)
+    let left = Bounds { lows, highs, count };
+    (left, answer)
 }
 
 // Settles a job text over a table and writes its report, as reporting::calls::report does over its lows and highs.
