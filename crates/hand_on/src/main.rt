@@ -3,8 +3,7 @@
 #![tactic(auto)]
 
 use console::{job_text, read_input, write_output};
-use job::MOST_BYTES;
-use writer::program::hand_on;
+use writer::program::{MOST_BYTES, hand_on};
 
 // The main of settle is alike but for the call and the words: a shared one would be no plainer.
 fn main(rt: HostRuntime) {

@@ -1,10 +1,11 @@
-// What the program prints of a job text: the report, or one line for a refusal.
+// What the program prints of a job text: the report, or one line for a refusal. MOST_BYTES, the room that it reserves for that, is handed on to it.
 ghost use Rattle.std.specs.Prelude.{◌++◌, ◌≡◌, length, drop};
 ghost use Rattle.report.specs.Inner.Printed.{JobRoom};
 ghost use Rattle.report.specs.Program.{printed_of};
 
 use crate::calls::report;
-use job::{MOST_BYTES, read};
+pub use job::MOST_BYTES;
+use job::read;
 use model::MOST_UNITS;
 use report::answers::print_answer;
 use report::lines::refusal_line;

@@ -3,8 +3,7 @@
 #![tactic(auto)]
 
 use console::{job_text, read_input, write_output};
-use job::MOST_BYTES;
-use reporting::program::print_job;
+use reporting::program::{MOST_BYTES, print_job};
 
 // The main of hand_on is alike but for the call and the words: a shared one would be no plainer.
 fn main(rt: HostRuntime) {

@@ -1,4 +1,5 @@
-// What the program hand_on writes of a job text: the settled job as a job text, or one line for a refusal.
+// What the program hand_on writes of a job text: the settled job as a job text, or one line for a refusal. MOST_BYTES, the room that it
+// reserves for that, is handed on to it.
 ghost use Rattle.std.specs.Prelude.{Ok, ◌++◌, ◌≡◌, ◌≤◌, length, drop};
 ghost use Rattle.form.specs.Form.{most_bytes};
 ghost use Rattle.report.specs.Inner.Printed.{JobRoom, Opened};
@@ -7,7 +8,8 @@ ghost use Rattle.writer.specs.Handing.{handed_on};
 ghost use Rattle.writer.specs.Inner.Asked.{LetThrough, SettledFrom};
 
 use crate::calls::write;
-use job::{MOST_BYTES, read};
+pub use job::MOST_BYTES;
+use job::read;
 use model::MOST_UNITS;
 use report::lines::refusal_line;
 use settling::calls::settle;
