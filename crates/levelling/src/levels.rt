@@ -24,7 +24,7 @@ fn total_at(lows: &[u64], highs: &[u64], v: u64, additions: &mut u64) -> u64
 {
     *additions += 1;
     let mut total: u64 = 0;
-    // The highs by index: a `zip` of both lists asks each for its end, and makes levelling two members slower by a third.
+    // The highs by index: a `zip` of both lists asks each for its end, and makes levelling two members slower by a sixth and more.
     for (i, low) in lows.iter().enumerate() {
         total += clamp(*low, highs[i], v);
     }
